@@ -1,0 +1,4 @@
+pub mod Records
+pub mod Left
+mod ScriptLemmas
+mod TranscriptLemmas

@@ -1,0 +1,12 @@
+pub mod Streams
+pub mod Ports
+pub mod History
+pub mod Chain
+pub mod Playing
+pub mod CallRecord
+pub mod MemoryStreams
+pub mod Player
+pub mod ScriptPorts
+pub mod SentTexts
+pub mod Script
+pub mod Transcript

@@ -1,0 +1,343 @@
+//! The texts of scripts.
+//!
+//! A line `open imap` opens a session, and `send N MOMENT TEXT` has the peer of session N send the bytes of TEXT at
+//! that moment. In TEXT `\r`, `\n`, `\\` and `\xHH` stand for bytes, and the other printable bytes of ASCII for themselves.
+
+ghost use Rattle.std.specs.Prelude.{ℕ, ◌≡◌, ◌≤◌, ◌<◌, ◌+◌, ◌*◌, ◌==◌, List, [], ◌∷◌, ◌++◌, Option, Ok, Err, None, IfOk, IsOkAnd, MatchOption, MatchResult, length, count_by, position, option_map, IsTrue};
+ghost use Rattle.std.specs.List.{before_first, after_first, list_all};
+ghost use Rattle.std.specs.Char.{is_ascii_digit};
+ghost use Rattle.port_model.specs.declared.script.ScriptFault.TheVariants.{BadLine};
+ghost use Rattle.port_model.specs.Script.{script_events, AreEvents, number_up_to, is_number, text_bytes, behind_backslash, behind_x, in_front, sized, sent_piece, line_event, next_event, follows, opens, closes, word, behind_word, script_lines, Spells, AreOpened};
+
+use crate::calls::Kind;
+use crate::events::Event;
+use octets::Octets;
+use std::alloc::{AllocError, AllocFailed, Global};
+
+/// Why the text of a script gives no events.
+#[derive(Clone, Copy, Debug, PartialEq, Eq)]
+pub enum ScriptFault {
+    /// The first line that is bad, counted from 1.
+    BadLine(u64),
+    /// There is no memory for the events.
+    NoMemory,
+}
+
+const MOST_BYTES: usize = 65_536;
+
+const LAST_MOMENT: u64 = 253_402_300_799;
+
+/// The events of a script, in its order.
+pub fn parse_script(alloc: Global, text: &[u8]) -> Result<Vec<Event>, ScriptFault>
+    requires { length text.now ≤ 67_108_864 }
+    ensures events { IfOk result (λ events. script_events text.now ≡ Ok events.items) }
+    ensures bad_line { (n : ℕ) → result ≡ Err (BadLine n) → script_events text.now ≡ Err n }
+    ensures kept { IfOk result (λ events. AreEvents events.items) }
+{
+    let mut events = Vec::new(alloc);
+    let mut left = text;
+    let mut number: u64 = 0;
+    while !left.is_empty() {
+        let (line, rest) = split_at_byte(left, b'\n');
+        number += 1;
+        let Some(event) = event_behind(alloc, events.as_slice(), line)? else {
+            return Err(ScriptFault::BadLine(number));
+        };
+        events.push(event)?;
+        left = rest;
+    }
+    Ok(events)
+}
+
+/// The event of a line behind those of the lines before.
+fn event_behind(alloc: Global, before: &[Event], line: &[u8]) -> Result<Option<Event>, AllocError>
+    requires { AreOpened before.now }
+    ensures { IfOk result (λ event. event ≡ next_event before.now line.now) }
+{
+    let event = parse_line(alloc, line)?;
+    Ok(event.filter(|event| may_follow(before, event)))
+}
+
+/// Whether an event may come behind those before it.
+fn may_follow(before: &[Event], event: &Event) -> bool
+    requires { AreOpened before.now }
+    ensures { result ≡ follows before.now event.now }
+{
+    match event {
+        Event::Opens(_) => before.is_empty(),
+        Event::Piece { number, .. } => *number == 1 && !before.is_empty(),
+        Event::Ends(_) | Event::Loses(_) => false,
+    }
+}
+
+fn parse_line(alloc: Global, line: &[u8]) -> Result<Option<Event>, AllocError>
+    ensures { IfOk result (λ event. event ≡ line_event line.now) }
+{
+    if line == b"open imap".as_slice() {
+        return Ok(Some(Event::Opens(Kind::Imap)));
+    }
+    match line.strip_prefix(b"send ") {
+        Some(words) => parse_piece(alloc, words),
+        None => Ok(None),
+    }
+}
+
+fn parse_piece(alloc: Global, line: &[u8]) -> Result<Option<Event>, AllocError>
+    ensures { IfOk result (λ event. event ≡ sent_piece line.now) }
+{
+    let (number, rest) = split_at_byte(line, b' ');
+    let (moment, text) = split_at_byte(rest, b' ');
+    let Some(number) = decimal_up_to(u64::from(u32::MAX), number) else {
+        return Ok(None);
+    };
+    let Some(moment) = decimal_up_to(LAST_MOMENT, moment) else {
+        return Ok(None);
+    };
+    let Some(bytes) = parse_text(alloc, text)? else {
+        return Ok(None);
+    };
+    Ok(Some(Event::Piece {
+        number: number as u32,
+        bytes,
+        moment,
+    }))
+}
+
+/// The bytes that a text stands for, if there are as many as a piece may have.
+#[tactic(auto, unfolding(crate::specs::Script::text_bytes))]
+fn parse_text(alloc: Global, text: &[u8]) -> Result<Option<Octets>, AllocError>
+    ensures { IfOk result (λ bytes. bytes ≡ sized (text_bytes text.now)) }
+{
+    let mut bytes = Vec::with_capacity(alloc, text.len().min(MOST_BYTES))?;
+    let mut left = text;
+    while !left.is_empty() {
+        let Some((byte, rest)) = spelled(left) else {
+            return Ok(None);
+        };
+        if bytes.len() == MOST_BYTES {
+            return Ok(None);
+        }
+        bytes.push(byte)?;
+        left = rest;
+    }
+    if bytes.is_empty() {
+        return Ok(None);
+    }
+    Ok(Some(Octets::new(bytes)))
+}
+
+/// The first byte that a text stands for, and the text behind it.
+#[tactic(auto, unfolding(crate::specs::Script::text_bytes))]
+fn spelled(text: &[u8]) -> Option<(u8, &[u8])>
+    requires { 0 < length text.now }
+    ensures { Spells text.now (text_bytes text.now) result }
+{
+    let (first, rest) = text.split_first()?;
+    match *first {
+        b'\\' => spelled_behind_backslash(rest),
+        b' '..=b'~' => Some((*first, rest)),
+        _ => None,
+    }
+}
+
+#[tactic(auto, unfolding(crate::specs::Script::text_bytes))]
+fn spelled_behind_backslash(text: &[u8]) -> Option<(u8, &[u8])>
+    ensures { Spells text.now (behind_backslash text.now) result }
+{
+    let (first, rest) = text.split_first()?;
+    match *first {
+        b'r' => Some((b'\r', rest)),
+        b'n' => Some((b'\n', rest)),
+        b'\\' => Some((b'\\', rest)),
+        b'x' => spelled_behind_x(rest),
+        _ => None,
+    }
+}
+
+#[tactic(auto, unfolding(crate::specs::Script::text_bytes))]
+fn spelled_behind_x(text: &[u8]) -> Option<(u8, &[u8])>
+    ensures { Spells text.now (behind_x text.now) result }
+{
+    let (high, rest) = text.split_first()?;
+    let (low, rest) = rest.split_first()?;
+    let high = char::from(*high).to_digit(16)?;
+    let low = char::from(*low).to_digit(16)?;
+    Some(((16 * high + low) as u8, rest))
+}
+
+fn decimal_up_to(most: u64, digits: &[u8]) -> Option<u64>
+    requires { most ≤ 1_000_000_000_000 }
+    ensures { result ≡ number_up_to most digits.now }
+{
+    if !is_decimal(digits) {
+        return None;
+    }
+    let mut value: u64 = 0;
+    for digit in digits {
+        value = value * 10 + u64::from(*digit - b'0');
+        if value > most {
+            return None;
+        }
+    }
+    Some(value)
+}
+
+fn is_decimal(digits: &[u8]) -> bool
+    ensures { result ≡ is_number digits.now }
+{
+    all_digits(digits) && (digits.len() == 1 || (digits.len() > 1 && digits[0] != b'0'))
+}
+
+fn all_digits(digits: &[u8]) -> bool
+    ensures { result ≡ list_all is_ascii_digit digits.now }
+{
+    digits.iter().all(|c| c.is_ascii_digit())
+}
+
+/// What stands before the first such byte, or all, and what stands behind it, or nothing.
+fn split_at_byte(text: &[u8], byte: u8) -> (&[u8], &[u8])
+    ensures before { result.0.now ≡ before_first (λ c. c == byte) text.now }
+    ensures behind { result.1.now ≡ after_first (λ c. c == byte) text.now }
+{
+    match place_of(text, byte) {
+        Some(at) => (&text[..at], &text[at + 1..]),
+        None => (text, &[]),
+    }
+}
+
+fn place_of(text: &[u8], byte: u8) -> Option<usize>
+    ensures { result ≡ position (λ c. c == byte) text.now }
+{
+    text.iter().position(|c| *c == byte)
+}
+
+impl From<AllocError> for ScriptFault {
+    ghost use Rattle.port_model.specs.declared.script.ScriptFault.TheVariants.{NoMemory};
+
+    ghost from_gives = { λ _ fault. fault ≡ NoMemory };
+
+    fn from(_error: AllocError) -> ScriptFault
+        ensures { result ≡ NoMemory }
+    {
+        ScriptFault::NoMemory
+    }
+}
+
+impl<T: Drop> From<AllocFailed<T>> for ScriptFault {
+    ghost use Rattle.port_model.specs.declared.script.ScriptFault.TheVariants.{NoMemory};
+
+    ghost from_gives = { λ _ fault. fault ≡ NoMemory };
+
+    fn from(_error: AllocFailed<T>) -> ScriptFault
+        ensures { result ≡ NoMemory }
+    {
+        ScriptFault::NoMemory
+    }
+}
+
+#[cfg(test)]
+mod tests {
+    use super::*;
+    use std::test::Fail;
+
+    /// The first bad line of a script of two lines, or 0.
+    fn bad_line(rt: &HostRuntime, first: &[u8], second: &[u8]) -> Result<u64, Fail> {
+        let mut text = first.to_vec(rt.alloc())?;
+        text.extend_from_slice(b"\n")?;
+        text.extend_from_slice(second)?;
+        if text.len() > 100_000 {
+            return Ok(100_000);
+        }
+        match parse_script(rt.alloc(), text.as_slice()) {
+            Ok(_) => Ok(0),
+            Err(ScriptFault::BadLine(n)) => Ok(n),
+            Err(ScriptFault::NoMemory) => Ok(100_000),
+        }
+    }
+
+    #[test]
+    fn lines_are_good_or_bad(rt: HostRuntime) -> Result<(), Fail> {
+        let open = b"open imap".as_slice();
+        let cases: [(&[u8], &[u8], u64); 38] = [
+            (b"", b"", 1),
+            (b"open lmtp", b"", 1),
+            (b"open imap ", b"", 1),
+            (b"open imap\r", b"", 1),
+            (b"# open", b"open imap", 1),
+            (b"send 1 0 x", b"", 1),
+            (open, b"", 0),
+            (open, b"\n", 2),
+            (open, b"#", 2),
+            (open, b"open imap", 2),
+            (open, b"end 1", 2),
+            (open, b"lose 1", 2),
+            (open, b"send 1 0 x", 0),
+            (open, b"send 1 0 x\n", 0),
+            (open, b"send 1 0 x\n\n", 3),
+            (open, b"send 1 0 x\nsend 1 0 x\nsend 2 0 x\nend 1", 4),
+            (open, b"send 1 0  ", 0),
+            (open, b"send 1 253402300799 x", 0),
+            (open, b"send 1 253402300800 x", 2),
+            (open, b"send 1 100000000000000000000000000000 x", 2),
+            (open, b"send 100000000000000000000000000001 0 x", 2),
+            (open, b"send 4294967297 0 x", 2),
+            (open, b"send 0 0 x", 2),
+            (open, b"send 2 0 x", 2),
+            (open, b"send 01 0 x", 2),
+            (open, b"send 1 00 x", 2),
+            (open, b"send +1 0 x", 2),
+            (open, b"send 1 0 ", 2),
+            (open, b"send 1 0", 2),
+            (open, b"send  1 0 x", 2),
+            (open, b"send 1  0 x", 2),
+            (open, b"SEND 1 0 x", 2),
+            (open, b"send 1 0 \\x4", 2),
+            (open, b"send 1 0 \\xg0", 2),
+            (open, b"send 1 0 \\q", 2),
+            (open, b"send 1 0 \\", 2),
+            (open, b"send 1 0 \x7f", 2),
+            (open, b"send 1 0 x\r", 2),
+        ];
+        for (first, second, line) in cases {
+            assert_eq!(rt; bad_line(&rt, first, second)?, line);
+        }
+        Ok(())
+    }
+
+    #[test]
+    fn texts_stand_for_bytes(rt: HostRuntime) -> Result<(), Fail> {
+        let text = b"open imap\nsend 1 7 a NOOP\\r\\n\nsend 1 9 \\\\~\\x00\\xfF\\x5c";
+        let events = parse_script(rt.alloc(), text.as_slice())
+            .ok()
+            .unwrap_or(Vec::new(rt.alloc()));
+        assert_eq!(rt; events.len(), 3);
+        assert!(rt; matches!(&events[0], Event::Opens(Kind::Imap)));
+        assert!(rt; is_piece(&events[1], 7, b"a NOOP\r\n"));
+        assert!(rt; is_piece(&events[2], 9, b"\\~\x00\xff\\"));
+        Ok(())
+    }
+
+    /// Whether the event is a piece of session 1 with these bytes at this moment.
+    fn is_piece(event: &Event, when: u64, expected: &[u8]) -> bool {
+        match event {
+            Event::Piece {
+                number,
+                bytes,
+                moment,
+            } => *number == 1 && *moment == when && bytes.as_slice() == expected,
+            _ => false,
+        }
+    }
+
+    #[test]
+    fn pieces_have_at_most_65536_bytes(rt: HostRuntime) -> Result<(), Fail> {
+        let mut piece = b"send 1 0 ".to_vec(rt.alloc())?;
+        for _ in 0..65_536 {
+            piece.push(b'x')?;
+        }
+        assert_eq!(rt; bad_line(&rt, b"open imap", piece.as_slice())?, 0);
+        piece.push(b'x')?;
+        assert_eq!(rt; bad_line(&rt, b"open imap", piece.as_slice())?, 2);
+        Ok(())
+    }
+}

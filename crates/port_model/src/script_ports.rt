@@ -1,0 +1,298 @@
+//! Ports that play a script.
+
+ghost use Rattle.std.specs.Prelude.{◌≡◌, ◌↔◌, ◌<◌, true, false, [], All, IfOk, OnOk, IsErr, IsTrue, is_err, length};
+ghost use Rattle.fault_counts.specs.Rose.{Rose};
+ghost use Rattle.port_model.specs.declared.calls.PortCall.TheVariants.{Accept, Read, Now, Send, Close};
+ghost use Rattle.port_model.specs.declared.calls.PortRead.TheVariants.{Lost as ReadLost};
+ghost use Rattle.port_model.specs.declared.calls.PortSend.TheVariants.{Lost as SendLost};
+ghost use Rattle.port_model.specs.Ports.{Records, NeverFall, answer_of_read, ReadsWithin, TakesWithin};
+ghost use Rattle.port_model.specs.Playing.{IsPlayed, playing};
+ghost use Rattle.port_model.specs.History.{sent};
+ghost use Rattle.port_model.specs.Player.{HasBytes};
+ghost use Rattle.port_model.specs.ScriptPorts.{Scripted, told_history, its_plan, listen_count, link_count};
+
+use crate::call_record::CallRecord;
+use crate::calls::{Kind, ListenFault, PortRead, PortSend};
+use crate::events::Event;
+use crate::player::Player;
+use crate::ports::Ports;
+use crate::sent_texts::{SentTexts, add_sent, sent_text};
+use fault_counts::raised;
+use std::alloc::{AllocError, Global};
+use std::collections::BTreeMap;
+use std::marker::Model;
+
+/// Ports that answer as a script has it, and record the calls on them.
+///
+/// A call takes 32 bytes of memory for its record, and one byte for each byte that it read or was offered to send; a
+/// byte that a send took is kept once more, for `sent`. All stand in lists that grow by doubling. A call takes O(log n)
+/// time in the number of links, beside the bytes that it moves; the events of a closed link are skipped once each.
+#[derive(Drop)]
+pub struct ScriptPorts {
+    alloc: Global,
+    player: Player,
+    calls: CallRecord,
+    texts: SentTexts,
+    starved: bool,
+    starvations: u64,
+}
+
+impl Model for ScriptPorts {
+    ghost use Rattle.std.specs.Prelude.{◌≡◌, false};
+    ghost use Rattle.port_model.specs.SentTexts.{text_at};
+    ghost use Rattle.port_model.specs.ScriptPorts.{Scripted, IsFollowed};
+
+    ghost Value = { Scripted };
+
+    ghost view = { λ ports. record { plan = ports.player.plan; calls = ports.calls; starved = ports.starved; starvations = ports.starvations } };
+
+    ghost invariant = { λ ports. ports.starved ≡ false → IsFollowed ports.player ports.calls (text_at ports.texts) };
+}
+
+impl ScriptPorts {
+    /// Ports that play these events, each piece of which has one byte at least. Each send takes one of these numbers
+    /// of bytes at most, in order, and all that it is offered behind the last.
+    pub fn new(
+        alloc: Global,
+        events: Vec<Event>,
+        sends: Vec<usize>,
+    ) -> Result<ScriptPorts, AllocError>
+        requires { All HasBytes events.items }
+        ensures { IfOk result (λ ports. ports ≡ record { plan = record { events = events.items; sends = sends.items }; calls = []; starved = false; starvations = 0 }) }
+    {
+        Ok(ScriptPorts {
+            alloc,
+            player: Player::new(alloc, events, sends),
+            calls: CallRecord::new(alloc),
+            texts: BTreeMap::new(alloc),
+            starved: false,
+            starvations: 0,
+        })
+    }
+
+    /// Whether no event of the script is left.
+    pub fn done(&self) -> bool
+        ensures left { self.now.starved ≡ false → (IsTrue result ↔ ((playing self.now.plan self.now.calls).left ≡ [])) }
+        ensures answers { self.now.starved ≡ false → IsPlayed self.now.plan self.now.calls }
+    {
+        self.player.is_done()
+    }
+
+    /// Whether the record of a call ever found no memory.
+    pub fn starved(&self) -> bool
+        ensures starved { result ≡ self.now.starved }
+        ensures answers { self.now.starved ≡ false → IsPlayed self.now.plan self.now.calls }
+    {
+        self.starved
+    }
+
+    /// What was sent by the link of a number, whether or not a link was accepted under it.
+    pub fn sent(&self, number: u32) -> &[u8]
+        ensures { self.now.starved ≡ false → result.now ≡ sent self.now.calls number }
+    {
+        sent_text(&self.texts, number)
+    }
+}
+
+impl Ports for ScriptPorts {
+    ghost history = { told_history };
+
+    ghost listen_faults = { listen_count };
+
+    ghost link_faults = { link_count };
+
+    ghost plan = { its_plan };
+
+    fn accept(&mut self, number: u32) -> Result<Option<Kind>, ListenFault>
+        ensures history { Records (Accept number result) (told_history self.old) (told_history self.new) }
+        ensures cause { IsErr result → Rose (listen_count self.old) (listen_count self.new) }
+        ensures counts { NeverFall (listen_count self.old) (link_count self.old) (listen_count self.new) (link_count self.new) }
+        ensures plan { its_plan self.new ≡ its_plan self.old }
+        ensures starved { is_err result ≡ self.new.starved }
+    {
+        let answer = Ok(self.player.accept(number));
+        if self.starved || self.calls.accept(number, answer).is_err() {
+            self.starved = true;
+            self.starvations = raised(self.starvations);
+            return Err(ListenFault);
+        }
+        answer
+    }
+
+    fn read(&mut self, number: u32, buf: &mut [u8]) -> PortRead
+        requires { 0 < length buf.old }
+        ensures history { Records (Read number (length buf.old) (answer_of_read result buf.new)) (told_history self.old) (told_history self.new) }
+        ensures within { ReadsWithin (length buf.old) result }
+        ensures cause { result ≡ ReadLost → Rose (link_count self.old number) (link_count self.new number) }
+        ensures counts { NeverFall (listen_count self.old) (link_count self.old) (listen_count self.new) (link_count self.new) }
+        ensures plan { its_plan self.new ≡ its_plan self.old }
+        ensures starved { self.new.starved ≡ true → result ≡ ReadLost }
+    {
+        let answer = self.player.read(number, buf);
+        if self.starved || self.calls.read(number, buf, answer).is_err() {
+            self.starved = true;
+            self.starvations = raised(self.starvations);
+            return PortRead::Lost;
+        }
+        answer
+    }
+
+    fn now(&mut self) -> u64 {
+        let reading = self.player.now();
+        if self.starved || self.calls.now(reading).is_err() {
+            self.starved = true;
+            self.starvations = raised(self.starvations);
+        }
+        reading
+    }
+
+    fn send(&mut self, number: u32, bytes: &[u8]) -> PortSend
+        ensures history { Records (Send number bytes.now result) (told_history self.old) (told_history self.new) }
+        ensures within { TakesWithin (length bytes.now) result }
+        ensures cause { result ≡ SendLost → Rose (link_count self.old number) (link_count self.new number) }
+        ensures counts { NeverFall (listen_count self.old) (link_count self.old) (listen_count self.new) (link_count self.new) }
+        ensures plan { its_plan self.new ≡ its_plan self.old }
+        ensures starved { self.new.starved ≡ true → result ≡ SendLost }
+    {
+        let answer = self.player.send(number, bytes);
+        let taken = match answer {
+            PortSend::Took(n) => n,
+            PortSend::Lost => 0,
+        };
+        if self.starved
+            || add_sent(self.alloc, &mut self.texts, number, &bytes[..taken]).is_err()
+            || self.calls.send(number, bytes, answer).is_err()
+        {
+            self.starved = true;
+            self.starvations = raised(self.starvations);
+            return PortSend::Lost;
+        }
+        answer
+    }
+
+    fn close(&mut self, number: u32) {
+        if self.starved || self.player.close(number).is_err() || self.calls.close(number).is_err() {
+            self.starved = true;
+            self.starvations = raised(self.starvations);
+        }
+    }
+}
+
+#[cfg(test)]
+mod tests {
+    use super::*;
+    use octets::Octets;
+    use std::test::Fail;
+
+    fn add(events: &mut Vec<Event>, event: Event) -> Result<(), Fail>
+        requires all { All HasBytes events.old.items }
+        requires bytes { HasBytes event }
+        ensures { OnOk result (All HasBytes events.new.items) }
+    {
+        events.push(event)?;
+        Ok(())
+    }
+
+    fn add_piece(
+        alloc: Global,
+        events: &mut Vec<Event>,
+        number: u32,
+        bytes: &[u8],
+        moment: u64,
+    ) -> Result<(), Fail>
+        requires all { All HasBytes events.old.items }
+        requires bytes { 0 < length bytes.now }
+        ensures { OnOk result (All HasBytes events.new.items) }
+    {
+        let bytes = Octets::new(bytes.to_vec(alloc)?);
+        add(
+            events,
+            Event::Piece {
+                number,
+                bytes,
+                moment,
+            },
+        )
+    }
+
+    // Two sessions. The first is closed before its last piece.
+    fn two_sessions(alloc: Global) -> Result<Vec<Event>, Fail>
+        ensures { IfOk result (λ events. All HasBytes events.items) }
+    {
+        let mut events = Vec::new(alloc);
+        add(&mut events, Event::Opens(Kind::Imap))?;
+        add_piece(alloc, &mut events, 1, b"abc", 5)?;
+        add(&mut events, Event::Opens(Kind::Lmtp))?;
+        add_piece(alloc, &mut events, 1, b"unread", 6)?;
+        add_piece(alloc, &mut events, 2, b"x", 9)?;
+        add(&mut events, Event::Ends(1))?;
+        add(&mut events, Event::Ends(2))?;
+        add(&mut events, Event::Loses(2))?;
+        Ok(events)
+    }
+
+    // A call with the answer that it is to have.
+    #[derive(Clone, Copy)]
+    enum Step {
+        Accept(u32, Option<Kind>),
+        // Into a buffer of two bytes; then the bytes in it, and the clock's reading after that.
+        Read(u32, PortRead, [u8; 2], u64),
+        Send(u32, PortSend),
+        Close(u32),
+    }
+
+    // Two sessions. A buffer that is too short leaves the rest of a piece as the next event, and the events of the
+    // closed session are skipped.
+    const STEPS: [Step; 19] = [
+        Step::Read(1, PortRead::Quiet, [0, 0], 0),
+        Step::Accept(1, Some(Kind::Imap)),
+        Step::Accept(2, None),
+        Step::Read(2, PortRead::Quiet, [0, 0], 0),
+        Step::Read(1, PortRead::Bytes(2), [b'a', b'b'], 5),
+        Step::Read(1, PortRead::Bytes(1), [b'c', 0], 5),
+        Step::Read(1, PortRead::Quiet, [0, 0], 5),
+        Step::Accept(2, Some(Kind::Lmtp)),
+        Step::Send(1, PortSend::Took(0)),
+        Step::Send(1, PortSend::Took(1)),
+        Step::Send(1, PortSend::Took(7)),
+        Step::Send(1, PortSend::Took(8)),
+        Step::Send(9, PortSend::Took(8)),
+        Step::Close(1),
+        Step::Read(1, PortRead::Quiet, [0, 0], 5),
+        Step::Read(2, PortRead::Bytes(1), [b'x', 0], 9),
+        Step::Read(2, PortRead::Ended, [0, 0], 9),
+        Step::Send(2, PortSend::Lost),
+        Step::Read(2, PortRead::Quiet, [0, 0], 9),
+    ];
+
+    fn is_answered(ports: &mut ScriptPorts, step: Step) -> bool {
+        match step {
+            Step::Accept(number, kind) => ports.accept(number) == Ok(kind),
+            Step::Read(number, answer, bytes, now) => {
+                let mut buf = [0; 2];
+                ports.read(number, &mut buf) == answer && buf == bytes && ports.now() == now
+            }
+            Step::Send(number, answer) => ports.send(number, b"12345678") == answer,
+            Step::Close(number) => {
+                ports.close(number);
+                true
+            }
+        }
+    }
+
+    #[test]
+    fn plays_two_sessions(rt: HostRuntime) -> Result<(), Fail> {
+        let alloc = rt.alloc();
+        let sends = vec![in alloc; 0, 1, 7]?;
+        let mut ports = ScriptPorts::new(alloc, two_sessions(alloc)?, sends)?;
+        for (i, step) in STEPS.iter().enumerate() {
+            assert_eq!(rt; ports.done(), i == STEPS.len() - 1, "before step {i}");
+            assert!(rt; is_answered(&mut ports, *step), "at step {i}");
+        }
+        assert!(rt; !ports.starved());
+        assert_eq!(rt; ports.sent(1), b"1123456712345678".as_slice());
+        assert_eq!(rt; ports.sent(2), b"".as_slice());
+        assert_eq!(rt; ports.sent(9), b"12345678".as_slice());
+        Ok(())
+    }
+}
