@@ -1,0 +1,124 @@
+//! A reader of units that is fed byte by byte.
+
+ghost use Rattle.std.specs.Prelude.{◌≡◌, ◌≢◌, ◌++◌, ◌∷◌, [], IfOk, OnErr, None, Some};
+ghost use Rattle.imap_lexer.specs.declared.units.Fed.TheVariants.{More};
+ghost use Rattle.imap_lexer.specs.declared.units.Form.TheVariants.{Command};
+ghost use Rattle.imap_lexer.specs.Units.{shown, first};
+ghost use Rattle.imap_lexer.specs.Lexer.{form_of};
+
+use crate::units::{Fed, shows};
+use std::alloc::{AllocError, Global};
+use std::marker::Model;
+
+/// The bytes of a unit as they come. Contracts see the form that is awaited and the bytes so far.
+#[derive(Drop, Debug)]
+pub struct Lexer {
+    bytes: Vec<u8>,
+    plain: bool,
+}
+
+impl Model for Lexer {
+    ghost use Rattle.imap_lexer.specs.Lexer.{Awaited, form_of};
+
+    ghost Value = { Awaited };
+
+    ghost view = { λ lexer. record { form = form_of lexer.plain; bytes = lexer.bytes.items } };
+}
+
+impl Lexer {
+    /// Awaits a command.
+    #[tactic(auto, unfolding(crate::specs::Units::first))]
+    pub fn new(alloc: Global) -> Result<Lexer, AllocError>
+        ensures empty { IfOk result (λ lexer. lexer ≡ record { form = Command; bytes = [] }) }
+        ensures none { IfOk result (λ lexer. first lexer.form lexer.bytes ≡ None) }
+    {
+        Ok(Lexer {
+            bytes: Vec::new(alloc),
+            plain: false,
+        })
+    }
+
+    /// Takes one byte, and tells what the bytes since the last unit show.
+    ///
+    /// After `Fed::Unit`, call `next` before more bytes.
+    pub fn feed(&mut self, byte: u8) -> Result<Fed, AllocError>
+        requires { first self.old.form self.old.bytes ≡ None }
+        ensures fed { IfOk result (λ fed. self.new ≡ record { form = self.old.form; bytes = self.old.bytes ++ byte ∷ [] }) }
+        ensures shown { IfOk result (λ fed. fed ≡ shown self.new.form self.new.bytes) }
+
+        // The unit is whole at its last byte, and not before.
+        ensures more { result ≡ Ok More → first self.new.form self.new.bytes ≡ None }
+        ensures whole { IfOk result (λ fed. fed ≢ More → first self.new.form self.new.bytes ≡ Some (record { unit = self.new.bytes; shows = fed; rest = [] })) }
+        ensures err { OnErr result (self.new ≡ self.old) }
+    {
+        self.bytes.push(byte)?;
+        Ok(shows(&self.bytes))
+    }
+
+    /// The bytes since the last unit: after `Fed::Unit` the unit, with its CRLF.
+    pub fn unit(&self) -> &[u8]
+        ensures { result.now ≡ self.now.bytes }
+    {
+        self.bytes.as_slice()
+    }
+
+    /// Whether the unit is a line without literals, and not a command.
+    pub fn is_plain(&self) -> bool
+        ensures { form_of result ≡ self.now.form }
+    {
+        self.plain
+    }
+
+    /// Drops the unit. The next one is a line without literals where `plain` is true, else a command.
+    #[tactic(auto, unfolding(crate::specs::Units::first))]
+    pub fn next(&mut self, plain: bool)
+        ensures dropped { self.new ≡ record { form = form_of plain; bytes = [] } }
+        ensures none { first self.new.form self.new.bytes ≡ None }
+    {
+        self.bytes.clear();
+        self.plain = plain;
+    }
+}
+
+#[cfg(test)]
+mod tests {
+    use super::*;
+    use std::test::Fail;
+
+    // Feeds bytes, of which only the last completes a line.
+    fn is_one_line(rt: &HostRuntime, text: &[u8]) -> Result<bool, Fail> {
+        let mut lexer = Lexer::new(rt.alloc())?;
+        'bytes: for byte in text {
+            match lexer.feed(*byte)? {
+                Fed::More => {}
+                Fed::Unit => return Ok(lexer.unit() == text),
+            }
+        }
+        Ok(false)
+    }
+
+    #[test]
+    fn lines_end_with_crlf(rt: HostRuntime) -> Result<(), Fail> {
+        for text in [
+            b"\r\n".as_slice(),
+            b"a NOOP\r\n",
+            b"a\nb\r\n",
+            b"a\rb\r\n",
+            b"a\r\r\n",
+            b"\0\xff{5}\r\n",
+        ] {
+            assert!(rt; is_one_line(&rt, text)?);
+        }
+        for text in [
+            b"".as_slice(),
+            b"a",
+            b"a\r",
+            b"a\n",
+            b"a\n\r",
+            b"a\r\nb\r\n",
+        ] {
+            assert!(rt; !is_one_line(&rt, text)?);
+        }
+        Ok(())
+    }
+}

@@ -1,0 +1,50 @@
+//! The forms of units, what bytes show of one, and the law that a unit ends where it ends.
+
+ghost use Rattle.std.specs.Prelude.{ℕ, ◌≡◌, ◌≢◌, ◌++◌, ◌∷◌, List, [], Some, None};
+ghost use Rattle.imap_lexer.specs.declared.units.Form.{Form};
+ghost use Rattle.imap_lexer.specs.declared.units.Fed.TheVariants.{More};
+ghost use Rattle.imap_lexer.specs.Units.{Cut, first, shown};
+
+/// What a session awaits from its peer.
+#[derive(Clone, Copy, Debug, PartialEq, Eq)]
+pub enum Form {
+    /// An IMAP command.
+    Command,
+    /// A line that is no command, as after AUTHENTICATE PLAIN (RFC 3501 §6.2.2).
+    Plain,
+}
+
+/// What the bytes since the last unit show.
+#[derive(Clone, Copy, Debug, PartialEq, Eq)]
+pub enum Fed {
+    /// The unit goes on.
+    More,
+    /// The bytes are a whole unit.
+    Unit,
+}
+
+/// What the bytes since the last unit show.
+pub fn shows(bytes: &[u8]) -> Fed
+    ensures { (form : Form) → result ≡ shown form bytes.now }
+{
+    if bytes.ends_with(b"\r\n") {
+        Fed::Unit
+    } else {
+        Fed::More
+    }
+}
+
+/// Laws of `first`: it is the shortest prefix that is a whole unit, where there is one; bytes that come later don't
+/// change it; and where one byte more completes a unit, that unit is all the bytes.
+pub fn units_end_where_they_end()
+    ensures parts { (form : Form) (bytes : List ℕ) (cut : Cut) → first form bytes ≡ Some cut → bytes ≡ cut.unit ++ cut.rest }
+    ensures whole { (form : Form) (bytes : List ℕ) (cut : Cut) → first form bytes ≡ Some cut → (shown form cut.unit ≡ cut.shows) × (cut.shows ≢ More) }
+    ensures shortest { (form : Form) (bytes : List ℕ) (cut : Cut) → first form bytes ≡ Some cut
+        → (byte : ℕ) (front behind : List ℕ) (next : ℕ) → cut.unit ≡ (byte ∷ front) ++ next ∷ behind → shown form (byte ∷ front) ≡ More }
+    ensures none { (form : Form) (bytes : List ℕ) → first form bytes ≡ None
+        → (byte : ℕ) (front behind : List ℕ) → bytes ≡ (byte ∷ front) ++ behind → shown form (byte ∷ front) ≡ More }
+    ensures stays { (form : Form) (bytes later : List ℕ) (cut : Cut) → first form bytes ≡ Some cut
+        → first form (bytes ++ later) ≡ Some (record { unit = cut.unit; shows = cut.shows; rest = cut.rest ++ later }) }
+    ensures at_last { (form : Form) (bytes : List ℕ) (byte : ℕ) (cut : Cut) → first form bytes ≡ None
+        → first form (bytes ++ byte ∷ []) ≡ Some cut → (cut.unit ≡ bytes ++ byte ∷ []) × (cut.rest ≡ []) }
+{}
