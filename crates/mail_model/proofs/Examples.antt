@@ -1,0 +1,51 @@
+-- Worked examples: the bytes of atoms and tags (RFC 3501 §9), how units read, and what they are answered.
+use Rattle.std.specs.Prelude.{ℕ, ◌≡◌, [], ◌∷◌, ◌++◌, false, codes, refl, filter}
+use Rattle.std.specs.List.{range_with_len}
+use Rattle.port_model.specs.History.{Opened, Piece}
+use Rattle.port_model.specs.declared.calls.Kind.TheVariants.{Imap, Lmtp}
+use Rattle.imap_lexer.specs.declared.units.Form.{Form}
+use Rattle.imap_lexer.specs.declared.units.Fed.TheVariants.{Unit as Whole}
+use Rattle.imap_lexer.specs.Units.{first, shown}
+use Rattle.mail_model.specs.Commands.{Noop, Tagged, BadTagged, BadUntagged, is_atom_byte, is_tag_byte, parsed}
+use Rattle.mail_model.specs.Step.{World, step, greeting}
+use Rattle.mail_model.specs.Machine.{machine, serve, take_piece}
+
+-- ATOM-CHAR: no space, control, `(`, `)`, `{`, `%`, `*`, `"`, `\` and `]`
+atom_bytes : filter is_atom_byte (range_with_len 0 256) ≡ codes "!#$&'+,-./0123456789:;<=>?@ABCDEFGHIJKLMNOPQRSTUVWXYZ[^_`abcdefghijklmnopqrstuvwxyz|}~"
+atom_bytes = refl
+
+-- what a tag is made of: ATOM-CHAR and `]`, but no `+`
+tag_bytes : filter is_tag_byte (range_with_len 0 256) ≡ codes "!#$&',-./0123456789:;<=>?@ABCDEFGHIJKLMNOPQRSTUVWXYZ[]^_`abcdefghijklmnopqrstuvwxyz|}~"
+tag_bytes = refl
+
+commands_read : (parsed (codes "a NOOP\r\n") ≡ Tagged (codes "a") Noop) × (parsed (codes "A1.b noop\r\n") ≡ Tagged (codes "A1.b") Noop) × (parsed (codes "]x NoOp\r\n") ≡ Tagged (codes "]x") Noop)
+unfolding parsed
+commands_read = (refl, refl, refl)
+
+tags_read : (parsed (codes "a \r\n") ≡ BadTagged (codes "a")) × (parsed (codes "a  NOOP\r\n") ≡ BadTagged (codes "a")) × (parsed (codes "a NOOP \r\n") ≡ BadTagged (codes "a")) × (parsed (codes "a NOOP x\r\n") ≡ BadTagged (codes "a"))
+    × (parsed (codes "a NOOP\r\r\n") ≡ BadTagged (codes "a")) × (parsed (codes "a NOOP\n\r\n") ≡ BadTagged (codes "a")) × (parsed (codes "a NOOP" ++ 233 ∷ 13 ∷ 10 ∷ []) ≡ BadTagged (codes "a"))
+unfolding parsed
+tags_read = (refl, refl, refl, refl, refl, refl, refl)
+
+nothing_read : (parsed (codes "\r\n") ≡ BadUntagged) × (parsed (codes "NOOP\r\n") ≡ BadUntagged) × (parsed (codes " NOOP\r\n") ≡ BadUntagged) × (parsed (codes "+ NOOP\r\n") ≡ BadUntagged) × (parsed (codes "a+b NOOP\r\n") ≡ BadUntagged)
+    × (parsed (codes "* NOOP\r\n") ≡ BadUntagged) × (parsed (codes "a\nb NOOP\r\n") ≡ BadUntagged) × (parsed (0 ∷ codes " NOOP\r\n") ≡ BadUntagged) × (parsed (97 ∷ 233 ∷ codes " NOOP\r\n") ≡ BadUntagged)
+unfolding parsed
+nothing_read = (refl, refl, refl, refl, refl, refl, refl, refl, refl)
+
+answered : (world : World) (number : ℕ) (form : Form) (moment : ℕ)
+    → ((step world number form Whole (codes "a1 noop\r\n") moment).answer ≡ codes "a1 OK NOOP completed\r\n") × ((step world number form Whole (codes "a1 XNOOP\r\n") moment).answer ≡ codes "a1 BAD syntax\r\n")
+    × ((step world number form Whole (codes "noop\r\n") moment).answer ≡ codes "* BAD syntax\r\n") × ((step world number form Whole (codes "a1 noop\r\n") moment).closes ≡ false)
+unfolding step parsed
+answered world number form moment = (refl, refl, refl, refl)
+
+-- Two pieces that cut a command, then a line that is none, then a line that isn't whole; the newest event is first.
+session : (world : World)
+    → (machine world (Piece 1 (codes "OP\r\nNOOP\r\nb NO") 20 ∷ Piece 1 (codes "a NO") 10 ∷ Opened 1 Imap ∷ [])).out 1 ≡ codes "* OK IMAP4rev1 ready\r\na OK NOOP completed\r\n* BAD syntax\r\n"
+unfolding machine serve take_piece first shown step greeting parsed
+session world = refl
+
+-- A link of another protocol is told so, and what comes by it after that is not served.
+refused : (world : World)
+    → (machine world (Piece 1 (codes "a NOOP\r\n") 10 ∷ Opened 1 Lmtp ∷ [])).out 1 ≡ codes "421 4.3.2 LMTP is not served\r\n"
+unfolding machine serve take_piece first shown step greeting parsed
+refused world = refl

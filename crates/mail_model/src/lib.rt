@@ -1,0 +1,11 @@
+//! What the server is to its users: a machine over plain lists, which takes the events of links one after another.
+//!
+//! There is no code here but the functions whose contracts are laws of the definitions. `specs/Machine.antt` has the
+//! machine, `specs/Step.antt` what one unit does, `specs/Commands.antt` how a unit reads as a command.
+#![tactic(auto)]
+
+mod laws;
+mod standing;
+
+pub use laws::{answers_only_grow, units_whatever_the_pieces};
+pub use standing::Standing;
