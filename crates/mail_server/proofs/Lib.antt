@@ -1,0 +1,10 @@
+pub mod Taking
+pub mod Growing
+pub mod Kept
+pub mod Keeping
+pub mod Chains
+pub mod Scripts
+pub mod Told
+pub mod Progress
+pub mod Transfers
+pub mod Readings

@@ -1,0 +1,524 @@
+-- Chains of calls on ports that play a script, where they are told at the end.
+use Rattle.std.proofs.Common.{ℕ, ◌+◌, ◌<◌, ◌≤◌, ◌==◌, ◌||◌, nat_lt, nat_eq, cond, Bool, true, false, List, [], ◌∷◌, ◌++◌, Option, Some, None, Result, Ok, filter, length, drop, ◌≡◌, refl, ap, sym, ◌∙◌, subst, inl, inr, ◌⊎◌, append-nil, take_all, true≢false, arith}
+use Rattle.std.proofs.lemmas.Option.{same_Some}
+use Rattle.std.proofs.lemmas.Bool.Decides.{leb_tells, nat_tests}
+use Rattle.port_model.specs.declared.calls.Kind.{Kind}
+use Rattle.port_model.specs.declared.calls.ListenFault.{ListenFault}
+use Rattle.port_model.specs.declared.calls.PortSend.{PortSend}
+use Rattle.port_model.specs.declared.calls.PortSend.TheVariants.{Took}
+use Rattle.port_model.specs.declared.calls.ReadAnswer.{ReadAnswer}
+use Rattle.port_model.specs.declared.calls.ReadAnswer.TheVariants.{Gave, Quiet, Ended as HasEnded, Lost as WasLost}
+use Rattle.port_model.specs.declared.calls.PortCall.{PortCall}
+use Rattle.port_model.specs.declared.calls.PortCall.TheVariants.{Accept, Read, Now, Send, Close}
+use Rattle.port_model.specs.declared.events.Event.{Event}
+use Rattle.port_model.specs.declared.events.Event.TheVariants.{Opens, Piece, Ends, Loses}
+use Rattle.port_model.specs.Chain.{Chain}
+use Rattle.port_model.specs.Streams.{moment}
+use Rattle.port_model.specs.History.{Opened, Piece as CamePiece, events, sent, is_closed}
+use Rattle.port_model.specs.Playing.{Playing, IsPlayed, playing, is_of, after_read, after_send, after_accept, rest_of, answer_to_read, answer_to_send, answer_to_accept, loses}
+use Rattle.mail_model.specs.declared.standing.Standing.{Standing}
+use Rattle.mail_model.specs.declared.standing.Standing.TheVariants.{Open, Closing, Lost as IsLost}
+use Rattle.mail_model.specs.Machine.{Machine, Session, machine, after, take_event, is_open}
+use Rattle.mail_server.specs.declared.link.Link.{Link}
+use Rattle.mail_server.specs.Calls.{Grows, Offers, OffersQueue, Closes, ClosesEmpty, Asks, AsksIdle, ReadsOnce, clocked, AcceptsBelow, read_room}
+use Rattle.mail_server.specs.Script.{first_world, script_machine}
+use Rattle.mail_server.specs.Serves.{OpenAreKept}
+use Rattle.mail_server.specs.OnScript.{plan_of, AreNext, Leads, IsOn}
+use Rattle.mail_server.proofs.Scripts.{NoneOpen, leads-opens, leads-piece, leads-close, numbers-last}
+
+-- A step between histories that are told, the later of which has a property.
+pub record Told {X : Type 0} (Step : X → Option (List PortCall) → Option (List PortCall) → Type 0) (P : List PortCall → Type 0) (x : X) (before later : List PortCall) : Type 0 where
+  pub step : Step x (Some before) (Some later)
+  pub holds : P later
+
+-- A step that ends told began told, and the property held before it.
+abbrev pub GoesBack : {X : Type 0} → (X → Option (List PortCall) → Option (List PortCall) → Type 0) → (List PortCall → Type 0) → Type 0
+GoesBack {X} Step P = (x : X) (old : Option (List PortCall)) (later : List PortCall) → P later → Step x old (Some later)
+    → (before : List PortCall) × (old ≡ Some before) × P before
+
+pub chain_back : {X : Type 0} (Step : X → Option (List PortCall) → Option (List PortCall) → Type 0) (P : List PortCall → Type 0) → GoesBack Step P
+    → (xs : List X) (old : Option (List PortCall)) (later : List PortCall) → P later → Chain Step xs old (Some later)
+    → (before : List PortCall) × (old ≡ Some before) × P before × Chain (Told Step P) xs before later
+chain_back Step P back [] old later p c = (later, sym c, p, refl)
+chain_back Step P back (x ∷ xs) old later p c =
+    let rest = chain_back Step P back xs c.0 later p c.2 in
+    let step : Step x old (Some rest.0) = subst (Step x old) rest.1 c.1 in
+    let one = back x old rest.0 rest.2 step in
+    (one.0, one.1, one.2, (rest.0, record { step = subst (λ (o : Option (List PortCall)). Step x o (Some rest.0)) one.1 step; holds = rest.2 }, rest.3))
+
+grows_back : (Calls : List PortCall → List PortCall → Type 0) (old : Option (List PortCall)) (later : List PortCall) → Grows Calls old (Some later)
+    → (before : List PortCall) × (old ≡ Some before) × Calls before later
+grows_back Calls None later h = absurd h
+grows_back Calls (Some before) later h = (before, refl, h)
+
+-- Every call has the script's answer.
+abbrev pub Plays : List Event → List PortCall → Type 0
+Plays script calls = IsPlayed (plan_of script) calls
+
+-- .. and no session that is open is closed.
+pub record PlaysKept (script : List Event) (calls : List PortCall) : Type 0 where
+  pub plays : Plays script calls
+  pub open_kept : OpenAreKept calls (after first_world calls).sessions
+  pub later_open : (number : ℕ) → (after first_world calls).last < number → is_closed calls number ≡ false
+
+abbrev pub left_in : List Event → List PortCall → List Event
+left_in script calls = (playing (plan_of script) calls).left
+
+-- Offers
+
+offers_queue_back : (script : List Event) (number : ℕ) (queue : List ℕ) (old : Option (List PortCall)) (later : List PortCall) → Plays script later
+    → OffersQueue number queue old (Some later) → (before : List PortCall) × (old ≡ Some before) × Plays script before
+offers_queue_back script number [] old later p h = (later, sym h, p)
+offers_queue_back script number (byte ∷ queue) old later p h =
+    let g = grows_back (λ (b l : List PortCall). (answer : PortSend) × (l ≡ Send number (byte ∷ queue) answer ∷ b)) old later h in
+    let played : Plays script (Send number (byte ∷ queue) g.2.0 ∷ g.0) = subst (Plays script) g.2.1 p in
+    (g.0, g.1, played.1)
+
+pub offers_back : (script : List Event) → GoesBack Offers (Plays script)
+offers_back script link old later p h = offers_queue_back script link.number link.queue.items old later p h
+
+read-sends : (now_playing : Playing) (number room : ℕ) (left : List Event) → (after_read now_playing number room left).sends ≡ now_playing.sends
+read-sends p number room [] = refl
+read-sends p number room (event ∷ later) =
+    elim (is_of number event) as (λ (b : Bool). (let q : Playing = cond b (record { left = rest_of event room ++ later; sends = p.sends; moment = Rattle.port_model.specs.Playing.moment_of event p.moment }) p in q).sends ≡ p.sends) [ true ↦ refl | false ↦ refl ]
+
+sends-none : (script : List Event) (calls : List PortCall) → (playing (plan_of script) calls).sends ≡ []
+sends-none script [] = refl
+sends-none script (Accept number answer ∷ older) = sends-none script older
+sends-none script (Read number room answer ∷ older) = read-sends (playing (plan_of script) older) number room (left_in script older) ∙ sends-none script older
+sends-none script (Now reading ∷ older) = sends-none script older
+sends-none script (Send number bytes answer ∷ older) = ap (λ (s : List ℕ). drop 1 s) (sends-none script older)
+sends-none script (Close number ∷ older) = sends-none script older
+
+loses-none : (closed : ℕ → Bool) (last number : ℕ) (left : List Event) → AreNext closed last left → loses left number ≡ false
+loses-none closed last number [] next = refl
+loses-none closed last number (Opens kind ∷ later) next = refl
+loses-none closed last number (Piece who bytes at ∷ later) next = refl
+loses-none closed last number (Ends who ∷ later) next = refl
+loses-none closed last number (Loses who ∷ later) next = absurd next.0
+
+send-left : (closed : ℕ → Bool) (last number : ℕ) (left : List Event) → AreNext closed last left → after_send left number ≡ left
+send-left closed last number [] next = refl
+send-left closed last number (Opens kind ∷ later) next = refl
+send-left closed last number (Piece who bytes at ∷ later) next = refl
+send-left closed last number (Ends who ∷ later) next = refl
+send-left closed last number (Loses who ∷ later) next = absurd next.0
+
+-- What an offer leaves: nothing of the script and of the machine changes, and all was sent.
+pub record OffersAll (script : List Event) (number : ℕ) (queue : List ℕ) (before later : List PortCall) : Type 0 where
+  pub on : IsOn script later
+  pub left : left_in script later ≡ left_in script before
+  pub same : events later ≡ events before
+  pub all : (who : ℕ) → sent later who ≡ cond (number == who) (sent before who ++ queue) (sent before who)
+
+nothing-more : (same : Bool) (out : List ℕ) → out ≡ cond same (out ++ []) out
+nothing-more true out = sym (append-nil out)
+nothing-more false out = refl
+
+offers_none : (script : List Event) (number : ℕ) (before : List PortCall) → IsOn script before → OffersAll script number [] before before
+offers_none script number before on = record { on = on; left = refl; same = refl; all = λ who. nothing-more (number == who) (sent before who) }
+
+offers_queue : (script : List Event) (number : ℕ) (queue : List ℕ) (before : List PortCall) → IsOn script before
+    → OffersAll script number queue before (Send number queue (Took (length queue)) ∷ before)
+offers_queue script number queue before on =
+    let left : after_send (left_in script before) number ≡ left_in script before = send-left _ _ number (left_in script before) on.next in
+    record {
+      on = record { whole = rw left on.whole; next = rw left on.next; numbered = on.numbered };
+      left = left;
+      same = refl;
+      all = λ who. ap (λ (bytes : List ℕ). cond (number == who) (sent before who ++ bytes) (sent before who)) (take_all (length queue) queue (omega arith));
+    }
+
+took : (script : List Event) (number : ℕ) (queue : List ℕ) (before : List PortCall) (answer : PortSend) → IsOn script before
+    → answer ≡ answer_to_send (playing (plan_of script) before) number (length queue) → answer ≡ Took (length queue)
+took script number queue before answer on e =
+    let none : loses (left_in script before) number ≡ false = loses-none _ _ number (left_in script before) on.next in
+    let all : (playing (plan_of script) before).sends ≡ [] = sends-none script before in
+    e ∙ (rw (none, all) refl)
+
+told_queue : (script : List Event) (number : ℕ) (queue : List ℕ) (before later : List PortCall) → OffersQueue number queue (Some before) (Some later)
+    → Plays script later → IsOn script before → OffersAll script number queue before later
+told_queue script number [] before later h p on = subst (OffersAll script number [] before) (sym (same_Some later before h)) (offers_none script number before on)
+told_queue script number (byte ∷ queue) before later h p on =
+    let played = subst (Plays script) h.1 p in
+    let e : later ≡ Send number (byte ∷ queue) (Took (length (byte ∷ queue))) ∷ before =
+    h.1 ∙ ap (λ (a : PortSend). Send number (byte ∷ queue) a ∷ before) (took script number (byte ∷ queue) before h.0 on played.0) in
+    subst (OffersAll script number (byte ∷ queue) before) (sym e) (offers_queue script number (byte ∷ queue) before on)
+
+pub told_offer : (script : List Event) (link : Link) (before later : List PortCall) → Told Offers (Plays script) link before later → IsOn script before
+    → OffersAll script link.number link.queue.items before later
+told_offer script link before later t on = told_queue script link.number link.queue.items before later t.step t.holds on
+
+-- Closes
+
+or-parts : (a b : Bool) → a || b ≡ false → (a ≡ false) × (b ≡ false)
+or-parts true b h = absurd (cc)
+or-parts false b h = (refl, h)
+
+open_kept-before : (number : ℕ) (calls : List PortCall) (sessions : List Session) → OpenAreKept (Close number ∷ calls) sessions → OpenAreKept calls sessions
+open_kept-before number calls [] h = tt
+open_kept-before number calls (session ∷ sessions) h =
+    ((λ o. (or-parts (number == session.number) (is_closed calls session.number) (h.0 o)).1), open_kept-before number calls sessions h.1)
+
+none_open-closed : (number : ℕ) (calls : List PortCall) (sessions : List Session) → OpenAreKept (Close number ∷ calls) sessions → NoneOpen number sessions
+none_open-closed number calls [] h = tt
+none_open-closed number calls (session ∷ sessions) h = (
+  (λ o. let other : (number == session.number) ≡ false = (or-parts (number == session.number) (is_closed calls session.number) (h.0 o)).0 in grind (arith, nat_tests)),
+  none_open-closed number calls sessions h.1,
+)
+
+kept-before : (script : List Event) (number : ℕ) (calls : List PortCall) → PlaysKept script (Close number ∷ calls) → PlaysKept script calls
+kept-before script number calls p =
+    record {
+      plays = p.plays.1;
+      open_kept = open_kept-before number calls (after first_world calls).sessions p.open_kept;
+      later_open = λ who above. (or-parts (number == who) (is_closed calls who) (p.later_open who above)).1;
+    }
+
+-- What a close leaves.
+pub record ClosesOn (script : List Event) (before later : List PortCall) : Type 0 where
+  pub on : IsOn script later
+  pub shorter : length (left_in script later) ≤ length (left_in script before)
+  pub same : events later ≡ events before
+  pub sent_same : (who : ℕ) → sent later who ≡ sent before who
+  pub still : (who : ℕ) → is_closed before who ≡ true → is_closed later who ≡ true
+
+filter-shorter : (P : Event → Bool) (left : List Event) → length (filter P left) ≤ length left
+filter-shorter P [] = omega arith
+filter-shorter P (event ∷ later) =
+    let rest = filter-shorter P later in
+    elim (P event) as (λ (b : Bool). length (cond b (event ∷ filter P later) (filter P later)) ≤ length (event ∷ later)) [ true ↦ omega (arith, rest) | false ↦ omega (arith, rest) ]
+
+or-true : (a b : Bool) → b ≡ true → a || b ≡ true
+or-true true b h = refl
+or-true false b h = h
+
+at-most : (script : List Event) (number : ℕ) (calls : List PortCall) → PlaysKept script (Close number ∷ calls) → number ≤ (after first_world calls).last
+at-most script number calls p =
+    elim (leb_tells number (after first_world calls).last) [
+      | inl low ↦ low.1
+      | inr high ↦ let open_still : (number == number) ≡ false = (or-parts (number == number) (is_closed calls number) (p.later_open number high.1)).0 in
+          let itself : (number == number) ≡ true = grind (arith, nat_tests) in absurd (cc)
+    ]
+
+closes_one : (script : List Event) (number : ℕ) (before : List PortCall) → PlaysKept script (Close number ∷ before) → IsOn script before → ClosesOn script before (Close number ∷ before)
+closes_one script number before p on =
+    record {
+      on = leads-close number (left_in script before) (is_closed before) (after first_world before) (script_machine script)
+          (none_open-closed number before (after first_world before).sessions p.open_kept) (at-most script number before p) on;
+      shorter = filter-shorter _ (left_in script before);
+      same = refl;
+      sent_same = λ who. refl;
+      still = λ who h. or-true (number == who) (is_closed before who) h;
+    }
+
+closes_none : (script : List Event) (before : List PortCall) → IsOn script before → ClosesOn script before before
+closes_none script before on = record { on = on; shorter = omega arith; same = refl; sent_same = λ who. refl; still = λ who h. h }
+
+-- A step closes a link, or nothing happens.
+abbrev ClosesMaybe : ℕ → Option (List PortCall) → Option (List PortCall) → Type 0
+ClosesMaybe number old new = (new ≡ old) ⊎ Grows (λ before later. later ≡ Close number ∷ before) old new
+
+closes-maybe : (standing : Standing) (number : ℕ) (queue : List ℕ) (old new : Option (List PortCall)) → ClosesEmpty standing number queue old new → ClosesMaybe number old new
+closes-maybe Open number queue old new h = inl h
+closes-maybe Closing number (byte ∷ queue) old new h = inl h
+closes-maybe Closing number [] old new h = inr h
+closes-maybe IsLost number (byte ∷ queue) old new h = inl h
+closes-maybe IsLost number [] old new h = inr h
+
+pub closes_back : (script : List Event) → GoesBack Closes (PlaysKept script)
+closes_back script link old later p h =
+    elim (closes-maybe link.standing link.number link.queue.items old (Some later) h) [
+      | inl same ↦ (later, sym same, p)
+      | inr grows ↦ let g = grows_back (λ (b l : List PortCall). l ≡ Close link.number ∷ b) old later grows in
+          (g.0, g.1, kept-before script link.number g.0 (subst (PlaysKept script) g.2 p))
+    ]
+
+pub told_close : (script : List Event) (link : Link) (before later : List PortCall) → Told Closes (PlaysKept script) link before later → IsOn script before
+    → ClosesOn script before later
+told_close script link before later t on =
+    elim (closes-maybe link.standing link.number link.queue.items (Some before) (Some later) t.step) [
+      | inl same ↦ subst (ClosesOn script before) (sym (same_Some later before same)) (closes_none script before on)
+      | inr one ↦ subst (ClosesOn script before) (sym one) (closes_one script link.number before (subst (PlaysKept script) one t.holds) on)
+    ]
+
+-- A link that isn't open and has nothing to send is closed.
+closes-empty : (standing : Standing) (number : ℕ) (queue : List ℕ) (before later : List PortCall) → is_open standing ≡ false → queue ≡ []
+    → ClosesEmpty standing number queue (Some before) (Some later) → later ≡ Close number ∷ before
+closes-empty Open number queue before later shut none h = absurd (cc)
+closes-empty Closing number [] before later shut none h = h
+closes-empty Closing number (byte ∷ queue) before later shut none h = absurd (cc)
+closes-empty IsLost number [] before later shut none h = h
+closes-empty IsLost number (byte ∷ queue) before later shut none h = absurd (cc)
+
+pub told_closed : (script : List Event) (link : Link) (before later : List PortCall) → Told Closes (PlaysKept script) link before later
+    → is_open link.standing ≡ false → link.queue.items ≡ [] → is_closed later link.number ≡ true
+told_closed script link before later t shut none =
+    let e = closes-empty link.standing link.number link.queue.items before later shut none t.step in
+    let itself : (link.number == link.number) ≡ true = grind (arith, nat_tests) in
+    rw e (rw itself refl)
+
+-- Reads
+
+-- whether the next event happens on the session of a number
+abbrev pub begins : ℕ → List Event → Bool
+begins number [] = false
+begins number (event ∷ later) = is_of number event
+
+-- What a call that takes an event leaves, where this tells whether it is its turn.
+pub record TakesNext (script : List Event) (turn : Bool) (before later : List PortCall) : Type 0 where
+  pub on : IsOn script later
+  pub shorter : length (left_in script later) ≤ length (left_in script before)
+  pub same : turn ≡ false → left_in script later ≡ left_in script before
+  pub takes : turn ≡ true → length (left_in script later) < length (left_in script before)
+
+takes_none : (script : List Event) (before : List PortCall) → IsOn script before → TakesNext script false before before
+takes_none script before on = record { on = on; shorter = omega arith; same = λ h. refl; takes = λ h. absurd (cc) }
+
+read_played : (script : List Event) (number : ℕ) (answer : ReadAnswer) (reading : ℕ) (before : List PortCall)
+    → Plays script (clocked answer reading (Read number read_room answer ∷ before)) → Plays script (Read number read_room answer ∷ before)
+read_played script number (Gave bytes) reading before p = p.1
+read_played script number Quiet reading before p = p
+read_played script number HasEnded reading before p = p
+read_played script number WasLost reading before p = p
+
+reads-maybe : (standing : Standing) (number : ℕ) (queue : List ℕ) (old new : Option (List PortCall)) → AsksIdle standing number queue old new
+    → (new ≡ old) ⊎ Grows (ReadsOnce number) old new
+reads-maybe Open number [] old new h = inr h
+reads-maybe Open number (byte ∷ queue) old new h = inl h
+reads-maybe Closing number queue old new h = inl h
+reads-maybe IsLost number queue old new h = inl h
+
+pub asks_back : (script : List Event) → GoesBack Asks (Plays script)
+asks_back script link old later p h =
+    elim (reads-maybe link.standing link.number link.queue.items old (Some later) h) [
+      | inl same ↦ (later, sym same, p)
+      | inr grows ↦ let g = grows_back (ReadsOnce link.number) old later grows in
+          (g.0, g.1, (read_played script link.number g.2.0 g.2.1 g.0 (subst (Plays script) g.2.2 p)).1)
+    ]
+
+-- a read that finds nothing
+read_quiet : (script : List Event) (number : ℕ) (before : List PortCall) → after_read (playing (plan_of script) before) number read_room (left_in script before) ≡ playing (plan_of script) before
+    → IsOn script before → TakesNext script false before (Read number read_room Quiet ∷ before)
+read_quiet script number before e on =
+    let left : left_in script (Read number read_room Quiet ∷ before) ≡ left_in script before = ap (λ (p : Playing). p.left) e in
+    record {
+      on = record { whole = rw left on.whole; next = rw left on.next; numbered = on.numbered };
+      shorter = omega (arith, ap (λ (l : List Event). length l) left);
+      same = λ h. left;
+      takes = λ h. absurd (cc);
+    }
+
+fits-whole : (room : ℕ) (who : ℕ) (bytes : List ℕ) (at : ℕ) → length bytes ≤ room → rest_of (Piece who bytes at) room ≡ []
+fits-whole room who bytes at h = let no : nat_lt room (length bytes) ≡ false = grind (arith, nat_tests) in rw no refl
+
+after-piece : (calls : List PortCall) (number room : ℕ) (bytes : List ℕ) (reading : ℕ)
+    → after first_world (Now reading ∷ Read number room (Gave bytes) ∷ calls) ≡ take_event (after first_world calls) (CamePiece number bytes (moment reading))
+unfolding machine
+after-piece calls number room bytes reading = refl
+
+after-open : (calls : List PortCall) (number : ℕ) (kind : Kind)
+    → after first_world (Accept number (Ok (Some kind)) ∷ calls) ≡ take_event (after first_world calls) (Opened number kind)
+unfolding machine
+after-open calls number kind = refl
+
+read-left : (p : Playing) (number room : ℕ) (bytes : List ℕ) (at : ℕ) (later left : List Event) → length bytes ≤ room → left ≡ Piece number bytes at ∷ later
+    → (after_read p number room left).left ≡ later
+read-left p number room bytes at later left fits e =
+    let itself : (number == number) ≡ true = grind (arith, nat_tests) in
+    subst (λ (l : List Event). (after_read p number room l).left ≡ later) (sym e) (rw (itself, fits-whole room number bytes at fits) refl)
+
+-- a read that gives the next piece
+read_piece : (script : List Event) (number : ℕ) (bytes : List ℕ) (at : ℕ) (later : List Event) (before : List PortCall) → left_in script before ≡ Piece number bytes at ∷ later
+    → IsOn script before → TakesNext script true before (Now at ∷ Read number read_room (Gave bytes) ∷ before)
+read_piece script number bytes at later before e on =
+    let next : Leads (Piece number bytes at ∷ later) (is_closed before) (after first_world before) (script_machine script) = subst (λ (l : List Event). Leads l (is_closed before) (after first_world before) (script_machine script)) e on in
+    let left : left_in script (Now at ∷ Read number read_room (Gave bytes) ∷ before) ≡ later =
+    read-left (playing (plan_of script) before) number read_room bytes at later (left_in script before) next.next.0.fits e in
+    record {
+      on = subst (λ (m : Machine). Leads (left_in script (Now at ∷ Read number read_room (Gave bytes) ∷ before)) (is_closed before) m (script_machine script)) (sym (after-piece before number read_room bytes at))
+          (subst (λ (l : List Event). Leads l (is_closed before) (take_event (after first_world before) (CamePiece number bytes (moment at))) (script_machine script)) (sym left)
+          (leads-piece number bytes at later (is_closed before) (after first_world before) (script_machine script) next));
+      shorter = omega (arith, ap (λ (l : List Event). length l) left, ap (λ (l : List Event). length l) e);
+      same = λ h. absurd (true≢false h);
+      takes = λ h. omega (arith, ap (λ (l : List Event). length l) left, ap (λ (l : List Event). length l) e);
+    }
+
+read-none : (p : Playing) (number room : ℕ) (left : List Event) → begins number left ≡ false → after_read p number room left ≡ p
+read-none p number room [] h = refl
+read-none p number room (event ∷ later) h = rw h refl
+
+quiet : (number room : ℕ) (left : List Event) → begins number left ≡ false → answer_to_read left number room ≡ Quiet
+quiet number room [] h = refl
+quiet number room (event ∷ later) h = rw h refl
+
+-- a read of a link on which nothing happens next
+told_quiet : (script : List Event) (number : ℕ) (answer : ReadAnswer) (reading : ℕ) (before : List PortCall)
+    → Plays script (clocked answer reading (Read number read_room answer ∷ before)) → IsOn script before → begins number (left_in script before) ≡ false
+    → TakesNext script false before (clocked answer reading (Read number read_room answer ∷ before))
+told_quiet script number answer reading before p on h =
+    let answered : answer ≡ Quiet = (read_played script number answer reading before p).0 ∙ quiet number read_room (left_in script before) h in
+    subst (λ (a : ReadAnswer). TakesNext script false before (clocked a reading (Read number read_room a ∷ before))) (sym answered)
+    (read_quiet script number before (read-none (playing (plan_of script) before) number read_room (left_in script before) h) on)
+
+given-piece : (number room : ℕ) (bytes : List ℕ) (at : ℕ) (later left : List Event) → length bytes ≤ room → left ≡ Piece number bytes at ∷ later
+    → answer_to_read left number room ≡ Gave bytes
+given-piece number room bytes at later left fits e =
+    let itself : (number == number) ≡ true = grind (arith, nat_tests) in
+    subst (λ (l : List Event). answer_to_read l number room ≡ Gave bytes) (sym e) (rw itself (ap (λ (b : List ℕ). Gave b) (take_all room bytes fits)))
+
+read-moment : (p : Playing) (number room : ℕ) (bytes : List ℕ) (at : ℕ) (later left : List Event) → left ≡ Piece number bytes at ∷ later
+    → (after_read p number room left).moment ≡ at
+read-moment p number room bytes at later left e =
+    let itself : (number == number) ≡ true = grind (arith, nat_tests) in
+    subst (λ (l : List Event). (after_read p number room l).moment ≡ at) (sym e) (rw itself refl)
+
+told_gave : (script : List Event) (number : ℕ) (bytes : List ℕ) (at reading : ℕ) (later : List Event) (before : List PortCall)
+    → Plays script (Now reading ∷ Read number read_room (Gave bytes) ∷ before) → IsOn script before → left_in script before ≡ Piece number bytes at ∷ later
+    → TakesNext script true before (Now reading ∷ Read number read_room (Gave bytes) ∷ before)
+told_gave script number bytes at reading later before p on e =
+    let its : reading ≡ at = p.0 ∙ read-moment (playing (plan_of script) before) number read_room bytes at later (left_in script before) e in
+    subst (λ (r : ℕ). TakesNext script true before (Now r ∷ Read number read_room (Gave bytes) ∷ before)) (sym its) (read_piece script number bytes at later before e on)
+
+told_piece : (script : List Event) (number : ℕ) (answer : ReadAnswer) (reading : ℕ) (bytes : List ℕ) (at : ℕ) (later : List Event) (before : List PortCall)
+    → Plays script (clocked answer reading (Read number read_room answer ∷ before)) → IsOn script before → left_in script before ≡ Piece number bytes at ∷ later
+    → TakesNext script true before (clocked answer reading (Read number read_room answer ∷ before))
+told_piece script number answer reading bytes at later before p on e =
+    let next : AreNext (is_closed before) (after first_world before).last (Piece number bytes at ∷ later) = subst (AreNext (is_closed before) (after first_world before).last) e on.next in
+    let answered : answer ≡ Gave bytes = (read_played script number answer reading before p).0 ∙ given-piece number read_room bytes at later (left_in script before) next.0.fits e in
+    let played : Plays script (Now reading ∷ Read number read_room (Gave bytes) ∷ before) =
+    subst (λ (a : ReadAnswer). Plays script (clocked a reading (Read number read_room a ∷ before))) answered p in
+    subst (λ (a : ReadAnswer). TakesNext script true before (clocked a reading (Read number read_room a ∷ before))) (sym answered)
+    (told_gave script number bytes at reading later before played on e)
+
+told_next : (script : List Event) (number : ℕ) (answer : ReadAnswer) (reading : ℕ) (before : List PortCall)
+    → Plays script (clocked answer reading (Read number read_room answer ∷ before)) → IsOn script before
+    → (left : List Event) → left_in script before ≡ left → (turn : Bool) → begins number left ≡ turn
+    → TakesNext script turn before (clocked answer reading (Read number read_room answer ∷ before))
+told_next script number answer reading before p on left e false h =
+    told_quiet script number answer reading before p on (subst (λ (l : List Event). begins number l ≡ false) (sym e) h)
+told_next script number answer reading before p on [] e true h = absurd (cc)
+told_next script number answer reading before p on (Opens kind ∷ later) e true h = absurd (cc)
+told_next script number answer reading before p on (Piece who bytes at ∷ later) e true h =
+    let itself : who ≡ number = grind (arith, nat_tests, h) in
+    told_piece script number answer reading bytes at later before p on (e ∙ ap (λ (n : ℕ). Piece n bytes at ∷ later) itself)
+told_next script number answer reading before p on (Ends who ∷ later) e true h = absurd (subst (AreNext (is_closed before) (after first_world before).last) e on.next).0
+told_next script number answer reading before p on (Loses who ∷ later) e true h = absurd (subst (AreNext (is_closed before) (after first_world before).last) e on.next).0
+
+-- A link that is asked takes the next event, if it is its own.
+told_read : (script : List Event) (number : ℕ) (before later : List PortCall) → ReadsOnce number before later → Plays script later → IsOn script before
+    → TakesNext script (begins number (left_in script before)) before later
+told_read script number before later h p on =
+    subst (TakesNext script (begins number (left_in script before)) before) (sym h.2)
+    (told_next script number h.0 h.1 before (subst (Plays script) h.2 p) on (left_in script before) refl (begins number (left_in script before)) refl)
+
+-- A link that isn't asked takes nothing, and one that is takes the next event, if it is its own.
+pub told_ask : (script : List Event) (link : Link) (before later : List PortCall) → Told Asks (Plays script) link before later → IsOn script before
+    → TakesNext script false before later ⊎ TakesNext script (begins link.number (left_in script before)) before later
+told_ask script link before later t on =
+    elim (reads-maybe link.standing link.number link.queue.items (Some before) (Some later) t.step) [
+      | inl same ↦ inl (subst (TakesNext script false before) (sym (same_Some later before same)) (takes_none script before on))
+      | inr reads ↦ inr (told_read script link.number before later reads t.holds on)
+    ]
+
+asks-open : (standing : Standing) (number : ℕ) (queue : List ℕ) (before later : List PortCall) → is_open standing ≡ true → queue ≡ []
+    → AsksIdle standing number queue (Some before) (Some later) → ReadsOnce number before later
+asks-open Open number [] before later opened none h = h
+asks-open Open number (byte ∷ queue) before later opened none h = absurd (cc)
+asks-open Closing number queue before later opened none h = absurd (cc)
+asks-open IsLost number queue before later opened none h = absurd (cc)
+
+-- A link that is open and has nothing to send takes the next event, if it is its own.
+pub told_idle : (script : List Event) (link : Link) (before later : List PortCall) → Told Asks (Plays script) link before later → IsOn script before
+    → is_open link.standing ≡ true → link.queue.items ≡ [] → TakesNext script (begins link.number (left_in script before)) before later
+told_idle script link before later t on opened none =
+    told_read script link.number before later (asks-open link.standing link.number link.queue.items before later opened none t.step) t.holds on
+
+-- Accepts
+
+-- whether the next event opens a session
+abbrev pub begins_open : List Event → Bool
+begins_open [] = false
+begins_open (Opens kind ∷ later) = true
+begins_open (Piece number bytes at ∷ later) = false
+begins_open (Ends number ∷ later) = false
+begins_open (Loses number ∷ later) = false
+
+pub accepts_back : (script : List Event) (full : Bool) (last : ℕ) (old : Option (List PortCall)) (later : List PortCall) → Plays script later
+    → AcceptsBelow full last old (Some later) → (before : List PortCall) × (old ≡ Some before) × Plays script before
+accepts_back script true last old later p h = (later, sym h, p)
+accepts_back script false last old later p h =
+    let g = grows_back (λ (b l : List PortCall). (answer : Result (Option Kind) ListenFault) × (l ≡ Accept (last + 1) answer ∷ b)) old later h in
+    let played : Plays script (Accept (last + 1) g.2.0 ∷ g.0) = subst (Plays script) g.2.1 p in
+    (g.0, g.1, played.1)
+
+accept-quiet : (left : List Event) → begins_open left ≡ false → (answer_to_accept left ≡ None) × (after_accept left ≡ left)
+accept-quiet [] h = (refl, refl)
+accept-quiet (Opens kind ∷ later) h = absurd (cc)
+accept-quiet (Piece number bytes at ∷ later) h = (refl, refl)
+accept-quiet (Ends number ∷ later) h = (refl, refl)
+accept-quiet (Loses number ∷ later) h = (refl, refl)
+
+accepts_none : (script : List Event) (number : ℕ) (before : List PortCall) → IsOn script before → begins_open (left_in script before) ≡ false
+    → TakesNext script false before (Accept number (Ok None) ∷ before)
+accepts_none script number before on h =
+    let left : after_accept (left_in script before) ≡ left_in script before = (accept-quiet (left_in script before) h).1 in
+    record {
+      on = record { whole = rw left on.whole; next = rw left on.next; numbered = on.numbered };
+      shorter = omega (arith, ap (λ (l : List Event). length l) left);
+      same = λ h. left;
+      takes = λ h. absurd (true≢false (sym h));
+    }
+
+accepts_some : (script : List Event) (number : ℕ) (kind : Kind) (later : List Event) (before : List PortCall) → IsOn script before
+    → left_in script before ≡ Opens kind ∷ later → number ≡ (after first_world before).last + 1
+    → TakesNext script true before (Accept number (Ok (Some kind)) ∷ before)
+accepts_some script number kind later before on e its =
+    let next : Leads (Opens kind ∷ later) (is_closed before) (after first_world before) (script_machine script) = subst (λ (l : List Event). Leads l (is_closed before) (after first_world before) (script_machine script)) e on in
+    let left : after_accept (left_in script before) ≡ later = ap (λ (l : List Event). after_accept l) e in
+    record {
+      on = subst (λ (m : Machine). Leads (after_accept (left_in script before)) (is_closed before) m (script_machine script)) (sym (after-open before number kind))
+          (subst (λ (n : ℕ). Leads (after_accept (left_in script before)) (is_closed before) (take_event (after first_world before) (Opened n kind)) (script_machine script)) (sym its)
+          (subst (λ (l : List Event). Leads l (is_closed before) (take_event (after first_world before) (Opened ((after first_world before).last + 1) kind)) (script_machine script)) (sym left)
+          (leads-opens kind later (is_closed before) (after first_world before) (script_machine script) next)));
+      shorter = omega (arith, ap (λ (l : List Event). length l) left, ap (λ (l : List Event). length l) e);
+      same = λ h. absurd (true≢false h);
+      takes = λ h. omega (arith, ap (λ (l : List Event). length l) left, ap (λ (l : List Event). length l) e);
+    }
+
+accept-answered : (script : List Event) (number : ℕ) (answer : Result (Option Kind) ListenFault) (before : List PortCall) → Plays script (Accept number answer ∷ before) → IsOn script before
+    → number ≡ (after first_world before).last + 1 → (left : List Event) → left_in script before ≡ left
+    → TakesNext script (begins_open left) before (Accept number answer ∷ before)
+accept-answered script number answer before p on its [] e =
+    subst (λ (a : Result (Option Kind) ListenFault). TakesNext script false before (Accept number a ∷ before)) (sym (p.0 ∙ ap (λ (l : List Event). Ok (answer_to_accept l)) e))
+    (accepts_none script number before on (ap begins_open e))
+accept-answered script number answer before p on its (Opens kind ∷ later) e =
+    subst (λ (a : Result (Option Kind) ListenFault). TakesNext script true before (Accept number a ∷ before)) (sym (p.0 ∙ ap (λ (l : List Event). Ok (answer_to_accept l)) e))
+    (accepts_some script number kind later before on e its)
+accept-answered script number answer before p on its (Piece who bytes at ∷ later) e =
+    subst (λ (a : Result (Option Kind) ListenFault). TakesNext script false before (Accept number a ∷ before)) (sym (p.0 ∙ ap (λ (l : List Event). Ok (answer_to_accept l)) e))
+    (accepts_none script number before on (ap begins_open e))
+accept-answered script number answer before p on its (Ends who ∷ later) e = absurd (subst (AreNext (is_closed before) (after first_world before).last) e on.next).0
+accept-answered script number answer before p on its (Loses who ∷ later) e = absurd (subst (AreNext (is_closed before) (after first_world before).last) e on.next).0
+
+accept-full : (script : List Event) (before : List PortCall) → IsOn script before → (script_machine script).last ≤ (after first_world before).last
+    → (left : List Event) → left_in script before ≡ left → TakesNext script (begins_open left) before before
+accept-full script before on full [] e = takes_none script before on
+accept-full script before on full (Opens kind ∷ later) e =
+    let room = numbers-last kind later (is_closed before) (after first_world before) (script_machine script)
+    (subst (λ (l : List Event). Leads l (is_closed before) (after first_world before) (script_machine script)) e on) in absurd (omega (arith, room, full))
+accept-full script before on full (Piece who bytes at ∷ later) e = takes_none script before on
+accept-full script before on full (Ends who ∷ later) e = takes_none script before on
+accept-full script before on full (Loses who ∷ later) e = takes_none script before on
+
+-- An accept takes the next event, if it opens a session.
+pub told_accept : (script : List Event) (full : Bool) (limit last : ℕ) (before later : List PortCall) → nat_eq last limit ≡ full → (script_machine script).last ≤ limit
+    → AcceptsBelow full last (Some before) (Some later) → last ≡ (after first_world before).last → Plays script later → IsOn script before
+    → TakesNext script (begins_open (left_in script before)) before later
+told_accept script true limit last before later test numbers h latest p on =
+    let at_limit : last ≡ limit = grind (arith, nat_tests, test) in
+    subst (TakesNext script (begins_open (left_in script before)) before) (sym (same_Some later before h))
+    (accept-full script before on (omega arith) (left_in script before) refl)
+told_accept script false limit last before later test numbers h latest p on =
+    subst (TakesNext script (begins_open (left_in script before)) before) (sym h.1)
+    (accept-answered script (last + 1) h.0 before (subst (Plays script) h.1 p) on (ap (λ (n : ℕ). n + 1) latest) (left_in script before) refl)

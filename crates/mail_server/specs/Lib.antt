@@ -1,0 +1,9 @@
+pub mod Core
+pub mod Commands
+pub mod Held
+pub mod Calls
+pub mod Serves
+pub mod Heard
+pub mod Script
+pub mod OnScript
+pub mod Run

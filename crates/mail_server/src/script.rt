@@ -1,0 +1,93 @@
+//! A script is played to its end.
+
+ghost use Rattle.std.specs.Prelude.{ℕ, ◌≡◌, false, [], All, OnOk, IfOk};
+ghost use Rattle.port_model.specs.History.{sent};
+ghost use Rattle.port_model.specs.Playing.{playing};
+ghost use Rattle.port_model.specs.Script.{AreEvents};
+ghost use Rattle.mail_server.specs.Held.{held};
+ghost use Rattle.mail_server.specs.OnScript.{IsOnScript, StaysOpen};
+ghost use Rattle.mail_server.specs.Script.{first_world, script_machine};
+ghost use Rattle.mail_server.specs.Serves.{Serves};
+
+use crate::server::{Server, Unloaded};
+use disk_model::Files;
+use port_model::{Event, ScriptPorts};
+use std::alloc::{AllocError, Global};
+
+/// What a script that was played leaves.
+#[derive(Drop)]
+pub(crate) struct Played {
+    /// The ports, which tell what each session was sent.
+    pub(crate) ports: ScriptPorts,
+    /// The number of the last session, 0 where none opened.
+    pub(crate) last: u32,
+}
+
+/// Loads the server and runs its rounds over the events of a script until none is left, and then sends what is still
+/// to be sent.
+pub(crate) fn play<D>(
+    alloc: Global,
+    files: Files<D>,
+    events: Vec<Event>,
+) -> (Result<Played, AllocError>, Files<D>)
+    requires kept { AreEvents events.items }
+    requires stays { All StaysOpen events.items }
+    ensures recorded { IfOk result.0 (λ played. played.ports.starved ≡ false) }
+    ensures sent { IfOk result.0 (λ played. (number : ℕ) → sent played.ports.calls number ≡ (script_machine events.items).out number) }
+    ensures last { IfOk result.0 (λ played. played.last ≡ (script_machine events.items).last) }
+    ensures files { result.1 ≡ files }
+{
+    let mut server = match Server::load(alloc, files) {
+        Ok(server) => server,
+        Err(unloaded) => {
+            let Unloaded { fault: _, files } = unloaded;
+            return (Err(AllocError), files);
+        }
+    };
+    let played = play_on(alloc, &mut server, events);
+    (played, server.into_files())
+}
+
+/// Plays a script on a server that has no link yet.
+fn play_on<D>(
+    alloc: Global,
+    server: &mut Server<D>,
+    events: Vec<Event>,
+) -> Result<Played, AllocError>
+    requires fresh { Serves first_world [] (held server.old) }
+    requires unspent { server.old.spent ≡ false }
+    requires kept { AreEvents events.items }
+    requires stays { All StaysOpen events.items }
+    ensures recorded { IfOk result (λ played. played.ports.starved ≡ false) }
+    ensures sent { IfOk result (λ played. (number : ℕ) → sent played.ports.calls number ≡ (script_machine events.items).out number) }
+    ensures last { IfOk result (λ played. played.last ≡ (script_machine events.items).last) }
+    ensures files { server.new.files ≡ server.old.files }
+{
+    let mut ports = ScriptPorts::new(alloc, events, Vec::new(alloc))?;
+    run_rounds(server, &mut ports)?;
+    server.flush(&mut ports);
+    if ports.starved() {
+        return Err(AllocError);
+    }
+    Ok(Played {
+        ports,
+        last: server.last,
+    })
+}
+
+/// Runs rounds until no event is left.
+fn run_rounds<D>(server: &mut Server<D>, ports: &mut ScriptPorts) -> Result<(), AllocError>
+    requires unspent { server.old.spent ≡ false }
+    requires on_script { IsOnScript ports.old.plan.events ports.old (held server.old) }
+    ensures on_script { OnOk result (IsOnScript ports.old.plan.events ports.new (held server.new)) }
+    ensures done { OnOk result ((playing ports.new.plan ports.new.calls).left ≡ []) }
+    ensures unspent { OnOk result (server.new.spent ≡ false) }
+    ensures files { server.new.files ≡ server.old.files }
+{
+    'rounds: while !ports.done() {
+        if server.round(ports).is_err() || ports.starved() {
+            return Err(AllocError);
+        }
+    }
+    Ok(())
+}

@@ -1,0 +1,37 @@
+//! How a run ends.
+
+ghost use Rattle.std.specs.Prelude.{◌≡◌};
+ghost use Rattle.mail_server.specs.Run.{code_of};
+
+/// How a run ends.
+#[derive(Clone, Copy, Debug, PartialEq, Eq)]
+pub(crate) enum Status {
+    /// The command did all of its work.
+    Done,
+    /// The words are none that are understood.
+    Usage,
+    /// Memory was refused.
+    NoMemory,
+    /// Reading the source failed.
+    ReadFault,
+    /// Writing to the sink failed.
+    WriteFault,
+    /// The script has a bad line or is too long.
+    BadScript,
+}
+
+impl Status {
+    /// The number that the process ends with.
+    pub(crate) fn code(self) -> u8
+        ensures { result ≡ code_of self }
+    {
+        match self {
+            Status::Done => 0,
+            Status::Usage => 2,
+            Status::NoMemory => 3,
+            Status::ReadFault => 4,
+            Status::WriteFault => 5,
+            Status::BadScript => 9,
+        }
+    }
+}
