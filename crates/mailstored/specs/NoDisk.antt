@@ -1,0 +1,19 @@
+-- The meanings of a disk of which nothing is known.
+use Rattle.std.specs.Prelude.{ℕ, None}
+use Rattle.disk_model.specs.Told.{Told}
+use Rattle.mailstored.specs.declared.disk.NoDisk.{NoDisk}
+
+-- Its reading isn't told, and a crash may leave any bytes.
+abbrev pub no_disk_told : Told NoDisk
+no_disk_told = record {
+  reading = λ disk. None;
+  images = λ disk image. Unit {0};
+  moment = λ disk. 0;
+  left_since = λ disk since image. Unit {0};
+  faults = λ disk. disk.faults;
+  reads = λ disk. disk.reads;
+  reading_is_image = λ disk. tt;
+  now_counts = λ disk since image le now. tt;
+  now_alone = λ disk image now. tt;
+  since_earlier = λ disk earlier later image le left. tt;
+}
