@@ -1,0 +1,5 @@
+pub mod LineLemmas
+pub mod PieceLemmas
+pub mod BlankLemmas
+pub mod CaseLemmas
+pub mod DecimalLemmas

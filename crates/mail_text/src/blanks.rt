@@ -1,0 +1,38 @@
+//! Blanks: spaces and tabs, the white space that stands within a line.
+ghost use Rattle.std.specs.Prelude.{◌≡◌};
+ghost use Rattle.mail_text.specs.Texts.{behind, is_blank as is_blank_of, trimmed, without_blank_end};
+
+/// Whether a byte is a space or a tab.
+pub fn is_blank(b: u8) -> bool
+    ensures { result ≡ is_blank_of b }
+{
+    b == b' ' || b == b'\t'
+}
+
+/// A text without blanks at both ends.
+pub fn trim(text: &[u8]) -> &[u8]
+    ensures { result.now ≡ trimmed text.now }
+{
+    trim_end(trim_start(text))
+}
+
+/// A text without the blanks at its front.
+pub fn trim_start(text: &[u8]) -> &[u8]
+    ensures { result.now ≡ behind is_blank_of text.now }
+{
+    let mut start = 0;
+    while start < text.len() && is_blank(text[start]) {
+        start += 1;
+    }
+    &text[start..]
+}
+
+fn trim_end(text: &[u8]) -> &[u8]
+    ensures { result.now ≡ without_blank_end text.now }
+{
+    let mut end = text.len();
+    while end > 0 && is_blank(text[end - 1]) {
+        end -= 1;
+    }
+    &text[..end]
+}
