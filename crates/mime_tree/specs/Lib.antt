@@ -1,0 +1,6 @@
+pub mod Trees
+pub mod Contents
+pub mod Sizes
+pub mod Code
+pub mod Falls
+pub mod Plain
