@@ -1,0 +1,7 @@
+pub mod SearchLemmas
+pub mod PlaceLemmas
+pub mod ScanLemmas
+pub mod UnfoldLemmas
+pub mod ReadingLemmas
+pub mod TrimLemmas
+pub mod GoodLemmas

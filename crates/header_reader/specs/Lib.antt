@@ -1,0 +1,5 @@
+pub mod Fields
+pub mod Faults
+pub mod Places
+pub mod Good
+pub mod Reading
