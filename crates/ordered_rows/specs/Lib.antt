@@ -1,0 +1,3 @@
+pub mod RowKey
+pub mod Listed
+pub mod Blocks
