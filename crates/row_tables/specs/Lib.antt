@@ -1,0 +1,4 @@
+pub mod Keys
+pub mod TableRows
+pub mod Indexes
+pub mod Fits
