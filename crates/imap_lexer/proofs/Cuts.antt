@@ -1,14 +1,17 @@
 -- Where the first unit of some bytes ends, as bytes come.
-use Rattle.std.proofs.Common.{ℕ, ◌≡◌, List, [], ◌∷◌, ◌++◌, Option, Some, None, refl, ap, sym, ◌∙◌, subst}
+use Rattle.std.proofs.Common.{ℕ, ◌≡◌, ◌≤◌, nat_lt, nat_eq, cond, Bool, true, false, List, [], ◌∷◌, ◌++◌, Option, Some, None, length, refl, ap, sym, ◌∙◌, subst, append-nil, arith}
+use Rattle.std.proofs.lemmas.Bool.Decides.{nat_tests}
+use Rattle.std.specs.List.{ends_with}
 use Rattle.imap_lexer.specs.declared.units.Form.{Form}
 use Rattle.imap_lexer.specs.declared.units.Fed.{Fed}
-use Rattle.imap_lexer.specs.declared.units.Fed.TheVariants.{More, Unit as Whole}
-use Rattle.imap_lexer.specs.Units.{Cut, shown, first, shortest, unless_more, behind_byte}
+use Rattle.imap_lexer.specs.declared.units.Fed.TheVariants.{More, Unit as Whole, LineTooLong}
+use Rattle.imap_lexer.specs.Units.{Cut, line_end, shown, first, shortest, unless_more, behind_byte}
 
 -- the cut of bytes that show something at their end alone
 pub ended : Fed → List ℕ → Option Cut
 ended More bytes = None
 ended Whole bytes = Some (record { unit = bytes; shows = Whole; rest = [] })
+ended LineTooLong bytes = Some (record { unit = bytes; shows = LineTooLong; rest = [] })
 
 -- a byte in front leaves no cut where there was none
 no_cut_behind : (byte : ℕ) (later : Option Cut) → behind_byte byte later ≡ None → later ≡ None
@@ -18,17 +21,19 @@ no_cut_behind byte (Some cut) h = cc
 no_cut : (shows : Fed) (byte : ℕ) (rest : List ℕ) (later : Option Cut) → unless_more shows byte rest later ≡ None → (shows ≡ More) × (later ≡ None)
 no_cut More byte rest later h = (refl, h)
 no_cut Whole byte rest later h = cc
+no_cut LineTooLong byte rest later h = cc
 
 ended-behind : (shows : Fed) (byte : ℕ) (bytes : List ℕ) → behind_byte byte (ended shows bytes) ≡ ended shows (byte ∷ bytes)
 unfolding ended
 ended-behind More byte bytes = refl
 ended-behind Whole byte bytes = refl
+ended-behind LineTooLong byte bytes = refl
 
 -- what one byte more makes of bytes without a unit
 pub snoc : (shows : List ℕ → Fed) (bytes : List ℕ) (byte : ℕ) → shortest shows bytes ≡ None
     → shortest shows (bytes ++ byte ∷ []) ≡ ended (shows (bytes ++ byte ∷ [])) (bytes ++ byte ∷ [])
 unfolding ended
-snoc shows [] byte h = elim (shows (byte ∷ [])) as (λ v. unless_more v byte [] None ≡ ended v (byte ∷ [])) [ More ↦ refl | Whole ↦ refl ]
+snoc shows [] byte h = elim (shows (byte ∷ [])) as (λ v. unless_more v byte [] None ≡ ended v (byte ∷ [])) [ More ↦ refl | Whole ↦ refl | LineTooLong ↦ refl ]
 snoc shows (c ∷ cs) byte h =
     let parts = no_cut (shows (c ∷ [])) c cs (behind_byte c (shortest (λ front. shows (c ∷ front)) cs)) h in
     let later = snoc (λ front. shows (c ∷ front)) cs byte (no_cut_behind c (shortest (λ front. shows (c ∷ front)) cs) parts.1) in
@@ -47,10 +52,12 @@ stays_unless : (shows : Fed) (byte : ℕ) (rest later : List ℕ) (cut more : Op
     → unless_more shows byte (rest ++ later) more ≡ with_more later (unless_more shows byte rest cut)
 stays_unless More byte rest later cut more h = h refl
 stays_unless Whole byte rest later cut more h = refl
+stays_unless LineTooLong byte rest later cut more h = refl
 
 some_of_unless : (shows : Fed) (byte : ℕ) (rest : List ℕ) (cut : Option Cut) (found : Cut) → unless_more shows byte rest cut ≡ Some found → shows ≡ More → cut ≡ Some found
 some_of_unless More byte rest cut found h e = h
 some_of_unless Whole byte rest cut found h e = cc
+some_of_unless LineTooLong byte rest cut found h e = cc
 
 some_behind : (byte : ℕ) (cut : Option Cut) (found : Cut) → behind_byte byte cut ≡ Some found → (inner : Cut) × (cut ≡ Some inner)
 some_behind byte None found h = cc
@@ -77,6 +84,7 @@ split_behind byte bytes (Some cut) h = ap (λ (l : List ℕ). byte ∷ l) h
 split_unless : (shows : Fed) (byte : ℕ) (bytes : List ℕ) (cut : Option Cut) → IsSplit (byte ∷ bytes) cut → IsSplit (byte ∷ bytes) (unless_more shows byte bytes cut)
 split_unless More byte bytes cut h = h
 split_unless Whole byte bytes cut h = refl
+split_unless LineTooLong byte bytes cut h = refl
 
 pub split : (shows : List ℕ → Fed) (bytes : List ℕ) → IsSplit bytes (shortest shows bytes)
 split shows [] = tt
@@ -89,10 +97,17 @@ pub first-more : (form : Form) (bytes : List ℕ) (byte : ℕ) → first form by
 unfolding first ended
 first-more form bytes byte h e = snoc (shown form) bytes byte h ∙ ap (λ v. ended v (bytes ++ byte ∷ [])) e
 
-pub first-whole : (form : Form) (bytes : List ℕ) (byte : ℕ) → first form bytes ≡ None → shown form (bytes ++ byte ∷ []) ≡ Whole
-    → first form (bytes ++ byte ∷ []) ≡ Some (record { unit = bytes ++ byte ∷ []; shows = Whole; rest = [] })
-unfolding first ended
-first-whole form bytes byte h e = snoc (shown form) bytes byte h ∙ ap (λ v. ended v (bytes ++ byte ∷ [])) e
+-- where a byte more shows a unit, the unit is all the bytes
+ended-shown : (shows : Fed) (bytes : List ℕ) → (shows ≡ More → ⊥) → ended shows bytes ≡ Some (record { unit = bytes; shows = shows; rest = [] })
+unfolding ended
+ended-shown More bytes other = absurd (other refl)
+ended-shown Whole bytes other = refl
+ended-shown LineTooLong bytes other = refl
+
+pub first-shown : (form : Form) (bytes : List ℕ) (byte : ℕ) → first form bytes ≡ None → (shown form (bytes ++ byte ∷ []) ≡ More → ⊥)
+    → first form (bytes ++ byte ∷ []) ≡ Some (record { unit = bytes ++ byte ∷ []; shows = shown form (bytes ++ byte ∷ []); rest = [] })
+unfolding first
+first-shown form bytes byte h other = snoc (shown form) bytes byte h ∙ ended-shown (shown form (bytes ++ byte ∷ [])) (bytes ++ byte ∷ []) other
 
 pub first-parts : (form : Form) (bytes : List ℕ) (cut : Cut) → first form bytes ≡ Some cut → bytes ≡ cut.unit ++ cut.rest
 unfolding first
@@ -109,6 +124,9 @@ whole_of_ended More bytes cut h = cc
 whole_of_ended Whole bytes cut h =
     let same : record { unit = bytes; shows = Whole; rest = [] } ≡ cut = cc in
     (sym (ap (λ (c : Cut). c.unit) same), sym (ap (λ (c : Cut). c.rest) same))
+whole_of_ended LineTooLong bytes cut h =
+    let same : record { unit = bytes; shows = LineTooLong; rest = [] } ≡ cut = cc in
+    (sym (ap (λ (c : Cut). c.unit) same), sym (ap (λ (c : Cut). c.rest) same))
 
 pub first-at_last : (form : Form) (bytes : List ℕ) (byte : ℕ) (cut : Cut) → first form bytes ≡ None
     → first form (bytes ++ byte ∷ []) ≡ Some cut → (cut.unit ≡ bytes ++ byte ∷ []) × (cut.rest ≡ [])
@@ -123,12 +141,23 @@ fed-more form bytes new byte fed h is_new is_shown e =
     subst (λ (l : List ℕ). first form l ≡ None) (sym is_new)
     (first-more form bytes byte h (ap (shown form) (sym is_new) ∙ sym is_shown ∙ e))
 
-pub fed-whole : (form : Form) (bytes new : List ℕ) (byte : ℕ) (fed : Fed) → first form bytes ≡ None → new ≡ bytes ++ byte ∷ [] → fed ≡ shown form new
+pub fed-shown : (form : Form) (bytes new : List ℕ) (byte : ℕ) (fed : Fed) → first form bytes ≡ None → new ≡ bytes ++ byte ∷ [] → fed ≡ shown form new
     → (fed ≡ More → ⊥) → first form new ≡ Some (record { unit = new; shows = fed; rest = [] })
-fed-whole form bytes new byte More h is_new is_shown other = absurd (other refl)
-fed-whole form bytes new byte Whole h is_new is_shown other =
-    subst (λ (l : List ℕ). first form l ≡ Some (record { unit = l; shows = Whole; rest = [] })) (sym is_new)
-    (first-whole form bytes byte h (ap (shown form) (sym is_new) ∙ sym is_shown))
+fed-shown form bytes new byte fed h is_new is_shown other =
+    let same : fed ≡ shown form (bytes ++ byte ∷ []) = is_shown ∙ ap (shown form) is_new in
+    let it = first-shown form bytes byte h (λ e. other (same ∙ e)) in
+    rw (is_new, same) it
+
+-- Bytes without a unit leave room for one more.
+no_room : (long more : Bool) → cond long LineTooLong (cond more Whole More) ≡ More → long ≡ false
+no_room true more h = absurd (cc)
+no_room false more h = refl
+
+short_shows : (form : Form) (bytes : List ℕ) → shown form bytes ≡ More → length bytes ≤ 8192
+unfolding shown
+short_shows form bytes h =
+    let no : nat_lt 8192 (length bytes) ≡ false = no_room (nat_lt 8192 (length bytes)) (ends_with nat_eq bytes line_end) h in
+    grind (arith, nat_tests, no)
 
 -- The first unit is the shortest prefix that is one.
 
@@ -144,6 +173,7 @@ whole_behind shows byte (Some cut) h = h
 whole_unless : (shows : List ℕ → Fed) (v : Fed) (byte : ℕ) (rest : List ℕ) (cut : Option Cut) → shows (byte ∷ []) ≡ v → IsWhole shows cut → IsWhole shows (unless_more v byte rest cut)
 whole_unless shows More byte rest cut e h = h
 whole_unless shows Whole byte rest cut e h = (e, λ same. cc)
+whole_unless shows LineTooLong byte rest cut e h = (e, λ same. cc)
 
 pub whole : (shows : List ℕ → Fed) (bytes : List ℕ) → IsWhole shows (shortest shows bytes)
 whole shows [] = tt
@@ -191,6 +221,10 @@ shortest_unless shows Whole c rest cut e h = λ byte front. elim front as (λ (f
   | [] ↦ λ behind next same. cc
   | d ∷ ds ↦ λ behind next same. cc
 ]
+shortest_unless shows LineTooLong c rest cut e h = λ byte front. elim front as (λ (f : List ℕ). (behind : List ℕ) (next : ℕ) → c ∷ [] ≡ (byte ∷ f) ++ next ∷ behind → shows (byte ∷ f) ≡ More) [
+  | [] ↦ λ behind next same. cc
+  | d ∷ ds ↦ λ behind next same. cc
+]
 
 pub is_shortest : (shows : List ℕ → Fed) (bytes : List ℕ) → IsShortest shows (shortest shows bytes)
 is_shortest shows [] = tt
@@ -207,3 +241,8 @@ first-shortest form bytes cut h = subst (IsShortest (shown form)) h (is_shortest
 pub first-none : (form : Form) (bytes : List ℕ) → first form bytes ≡ None → NoneUpTo (shown form) bytes
 unfolding first
 first-none form bytes h = none_shows (shown form) bytes h
+
+-- where there is no unit yet there is room for a byte more
+pub first-short : (form : Form) (bytes : List ℕ) → first form bytes ≡ None → length bytes ≤ 8192
+first-short form [] h = omega arith
+first-short form (c ∷ cs) h = short_shows form (c ∷ cs) (first-none form (c ∷ cs) h c cs [] (sym (append-nil (c ∷ cs))))

@@ -1,6 +1,6 @@
 //! A reader of units that is fed byte by byte.
 
-ghost use Rattle.std.specs.Prelude.{◌≡◌, ◌≢◌, ◌++◌, ◌∷◌, [], IfOk, OnErr, None, Some};
+ghost use Rattle.std.specs.Prelude.{◌≡◌, ◌≢◌, ◌≤◌, ◌++◌, ◌∷◌, [], IfOk, IsOk, None, Some, vec_capacity};
 ghost use Rattle.imap_lexer.specs.declared.units.Fed.TheVariants.{More};
 ghost use Rattle.imap_lexer.specs.declared.units.Form.TheVariants.{Command};
 ghost use Rattle.imap_lexer.specs.Units.{shown, first};
@@ -15,7 +15,11 @@ use std::marker::Model;
 pub struct Lexer {
     bytes: Vec<u8>,
     plain: bool,
+    ghost room: { 8193 ≤ vec_capacity bytes },
 }
+
+/// Room for the longest line and the byte that shows one to be too long.
+const ROOM: usize = 8193;
 
 impl Model for Lexer {
     ghost use Rattle.imap_lexer.specs.Lexer.{Awaited, form_of};
@@ -26,21 +30,23 @@ impl Model for Lexer {
 }
 
 impl Lexer {
-    /// Awaits a command.
+    /// Awaits a command. The memory for a line is taken here, and kept for all that follow.
     #[tactic(auto, unfolding(crate::specs::Units::first))]
     pub fn new(alloc: Global) -> Result<Lexer, AllocError>
         ensures empty { IfOk result (λ lexer. lexer ≡ record { form = Command; bytes = [] }) }
         ensures none { IfOk result (λ lexer. first lexer.form lexer.bytes ≡ None) }
     {
         Ok(Lexer {
-            bytes: Vec::new(alloc),
+            bytes: Vec::with_capacity(alloc, ROOM)?,
             plain: false,
         })
     }
 
     /// Takes one byte, and tells what the bytes since the last unit show.
     ///
-    /// After `Fed::Unit`, call `next` before more bytes.
+    /// After another answer than `Fed::More`, call `next` before more bytes.
+    ///
+    /// Lines take no memory, so no call is refused any as long as there are no literals.
     pub fn feed(&mut self, byte: u8) -> Result<Fed, AllocError>
         requires { first self.old.form self.old.bytes ≡ None }
         ensures fed { IfOk result (λ fed. self.new ≡ record { form = self.old.form; bytes = self.old.bytes ++ byte ∷ [] }) }
@@ -49,13 +55,13 @@ impl Lexer {
         // The unit is whole at its last byte, and not before.
         ensures more { result ≡ Ok More → first self.new.form self.new.bytes ≡ None }
         ensures whole { IfOk result (λ fed. fed ≢ More → first self.new.form self.new.bytes ≡ Some (record { unit = self.new.bytes; shows = fed; rest = [] })) }
-        ensures err { OnErr result (self.new ≡ self.old) }
+        ensures taken { IsOk result }
     {
         self.bytes.push(byte)?;
         Ok(shows(&self.bytes))
     }
 
-    /// The bytes since the last unit: after `Fed::Unit` the unit, with its CRLF.
+    /// The bytes since the last unit: after `Fed::Unit` the unit, with its CRLF; after `Fed::LineTooLong` 8,193 bytes.
     pub fn unit(&self) -> &[u8]
         ensures { result.now ≡ self.now.bytes }
     {
@@ -92,6 +98,7 @@ mod tests {
             match lexer.feed(*byte)? {
                 Fed::More => {}
                 Fed::Unit => return Ok(lexer.unit() == text),
+                Fed::LineTooLong => return Ok(false),
             }
         }
         Ok(false)
@@ -119,6 +126,27 @@ mod tests {
         ] {
             assert!(rt; !is_one_line(&rt, text)?);
         }
+        Ok(())
+    }
+
+    // What a line of so many letters shows with its last byte, or with the first byte that shows anything.
+    fn letters_show(rt: &HostRuntime, letters: usize) -> Result<Fed, Fail> {
+        let mut lexer = Lexer::new(rt.alloc())?;
+        'bytes: for _ in 0..letters {
+            if lexer.feed(b'x')? != Fed::More {
+                return Ok(Fed::More);
+            }
+        }
+        if lexer.feed(b'\r')? != Fed::More {
+            return Ok(Fed::More);
+        }
+        Ok(lexer.feed(b'\n')?)
+    }
+
+    #[test]
+    fn a_line_has_8192_bytes_at_most(rt: HostRuntime) -> Result<(), Fail> {
+        assert_eq!(rt; letters_show(&rt, 8190)?, Fed::Unit);
+        assert_eq!(rt; letters_show(&rt, 8191)?, Fed::LineTooLong);
         Ok(())
     }
 }

@@ -21,20 +21,27 @@ pub enum Fed {
     More,
     /// The bytes are a whole unit.
     Unit,
+    /// The line has more bytes than one may have.
+    LineTooLong,
 }
+
+/// How many bytes a line may have, with its CRLF.
+const LINE_LIMIT: usize = 8192;
 
 /// What the bytes since the last unit show.
 pub fn shows(bytes: &[u8]) -> Fed
     ensures { (form : Form) → result ≡ shown form bytes.now }
 {
-    if bytes.ends_with(b"\r\n") {
+    if bytes.len() > LINE_LIMIT {
+        Fed::LineTooLong
+    } else if bytes.ends_with(b"\r\n") {
         Fed::Unit
     } else {
         Fed::More
     }
 }
 
-/// Laws of `first`: it is the shortest prefix that is a whole unit, where there is one; bytes that come later don't
+/// Laws of `first`: it is the shortest prefix that is a whole unit or is too long for one, where there is one; bytes that come later don't
 /// change it; and where one byte more completes a unit, that unit is all the bytes.
 pub fn units_end_where_they_end()
     ensures parts { (form : Form) (bytes : List ℕ) (cut : Cut) → first form bytes ≡ Some cut → bytes ≡ cut.unit ++ cut.rest }

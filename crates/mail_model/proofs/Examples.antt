@@ -1,12 +1,12 @@
 -- Worked examples: the bytes of atoms and tags (RFC 3501 §9), how units read, and what they are answered.
-use Rattle.std.specs.Prelude.{ℕ, ◌≡◌, [], ◌∷◌, ◌++◌, false, codes, refl, filter}
+use Rattle.std.specs.Prelude.{ℕ, ◌≡◌, [], ◌∷◌, ◌++◌, false, true, codes, refl, filter}
 use Rattle.std.specs.List.{range_with_len}
-use Rattle.port_model.specs.History.{Opened, Piece}
+use Rattle.port_model.specs.History.{Opened, Piece, Ended}
 use Rattle.port_model.specs.declared.calls.Kind.TheVariants.{Imap, Lmtp}
 use Rattle.imap_lexer.specs.declared.units.Form.{Form}
-use Rattle.imap_lexer.specs.declared.units.Fed.TheVariants.{Unit as Whole}
+use Rattle.imap_lexer.specs.declared.units.Fed.TheVariants.{Unit as Whole, LineTooLong}
 use Rattle.imap_lexer.specs.Units.{first, shown}
-use Rattle.mail_model.specs.Commands.{Noop, Tagged, BadTagged, BadUntagged, is_atom_byte, is_tag_byte, parsed}
+use Rattle.mail_model.specs.Commands.{Capability, Noop, Logout, Tagged, BadTagged, BadUntagged, is_atom_byte, is_tag_byte, parsed}
 use Rattle.mail_model.specs.Step.{World, step, greeting}
 use Rattle.mail_model.specs.Machine.{machine, serve, take_piece}
 
@@ -21,6 +21,10 @@ tag_bytes = refl
 commands_read : (parsed (codes "a NOOP\r\n") ≡ Tagged (codes "a") Noop) × (parsed (codes "A1.b noop\r\n") ≡ Tagged (codes "A1.b") Noop) × (parsed (codes "]x NoOp\r\n") ≡ Tagged (codes "]x") Noop)
 unfolding parsed
 commands_read = (refl, refl, refl)
+
+more_commands_read : (parsed (codes "a capability\r\n") ≡ Tagged (codes "a") Capability) × (parsed (codes "a LogOut\r\n") ≡ Tagged (codes "a") Logout) × (parsed (codes "a LOGOUT \r\n") ≡ BadTagged (codes "a"))
+unfolding parsed
+more_commands_read = (refl, refl, refl)
 
 tags_read : (parsed (codes "a \r\n") ≡ BadTagged (codes "a")) × (parsed (codes "a  NOOP\r\n") ≡ BadTagged (codes "a")) × (parsed (codes "a NOOP \r\n") ≡ BadTagged (codes "a")) × (parsed (codes "a NOOP x\r\n") ≡ BadTagged (codes "a"))
     × (parsed (codes "a NOOP\r\r\n") ≡ BadTagged (codes "a")) × (parsed (codes "a NOOP\n\r\n") ≡ BadTagged (codes "a")) × (parsed (codes "a NOOP" ++ 233 ∷ 13 ∷ 10 ∷ []) ≡ BadTagged (codes "a"))
@@ -38,6 +42,18 @@ answered : (world : World) (number : ℕ) (form : Form) (moment : ℕ)
 unfolding step parsed
 answered world number form moment = (refl, refl, refl, refl)
 
+closing_answers : (world : World) (number : ℕ) (form : Form) (moment : ℕ)
+    → ((step world number form Whole (codes "a LOGOUT\r\n") moment).answer ≡ codes "* BYE logging out\r\na OK LOGOUT completed\r\n") × ((step world number form Whole (codes "a LOGOUT\r\n") moment).closes ≡ true)
+    × ((step world number form LineTooLong (codes "x") moment).answer ≡ codes "* BYE line too long\r\n") × ((step world number form LineTooLong (codes "x") moment).closes ≡ true)
+unfolding step parsed
+closing_answers world number form moment = (refl, refl, refl, refl)
+
+-- The 65th session at once is one too many.
+too_many : (world : World)
+    → ((greeting world 65 Imap 64).answer ≡ codes "* BYE too many sessions\r\n") × ((greeting world 65 Imap 64).closes ≡ true) × ((greeting world 65 Imap 63).answer ≡ codes "* OK IMAP4rev1 ready\r\n")
+unfolding greeting
+too_many world = (refl, refl, refl)
+
 -- Two pieces that cut a command, then a line that is none, then a line that isn't whole; the newest event is first.
 session : (world : World)
     → (machine world (Piece 1 (codes "OP\r\nNOOP\r\nb NO") 20 ∷ Piece 1 (codes "a NO") 10 ∷ Opened 1 Imap ∷ [])).out 1 ≡ codes "* OK IMAP4rev1 ready\r\na OK NOOP completed\r\n* BAD syntax\r\n"
@@ -49,3 +65,10 @@ refused : (world : World)
     → (machine world (Piece 1 (codes "a NOOP\r\n") 10 ∷ Opened 1 Lmtp ∷ [])).out 1 ≡ codes "421 4.3.2 LMTP is not served\r\n"
 unfolding machine serve take_piece first shown step greeting parsed
 refused world = refl
+
+-- What stands behind LOGOUT is dropped, and the end of a session that is closing changes nothing.
+logged_out : (world : World)
+    → (machine world (Piece 1 (codes "c NOOP\r\n") 11 ∷ Ended 1 ∷ Piece 1 (codes "a LOGOUT\r\nb NOOP\r\n") 10 ∷ Opened 1 Imap ∷ [])).out 1
+    ≡ codes "* OK IMAP4rev1 ready\r\n* BYE logging out\r\na OK LOGOUT completed\r\n"
+unfolding machine serve take_piece first shown step greeting parsed
+logged_out world = refl

@@ -3,7 +3,6 @@ use Rattle.std.proofs.Common.{ℕ, ◌≡◌, ◌==◌, Bool, true, false, List,
 use Rattle.port_model.specs.History.{PortEvent, Opened, Piece, Ended, Lost}
 use Rattle.mail_model.specs.Machine.{Machine, Session, Taking, takes, session_at, take_event, machine, hears_piece, leaves}
 use Rattle.mail_model.specs.Step.{World}
-use Rattle.mail_model.specs.declared.standing.Standing.TheVariants.{Closing, Lost as IsLost}
 
 -- one list begins with the other
 abbrev pub Grows : List ℕ → List ℕ → Type 0
@@ -22,8 +21,8 @@ of_session-grows m number who act (Some session) =
 grows : (m : Machine) (event : PortEvent) (number : ℕ) → Grows (m.out number) ((take_event m event).out number)
 grows m (Opened who kind) number = added (number == who) (m.out number) _
 grows m (Piece who piece moment) number = of_session-grows m number who (hears_piece moment piece) (session_at who m.sessions)
-grows m (Ended who) number = of_session-grows m number who (leaves Closing) (session_at who m.sessions)
-grows m (Lost who) number = of_session-grows m number who (leaves IsLost) (session_at who m.sessions)
+grows m (Ended who) number = of_session-grows m number who leaves (session_at who m.sessions)
+grows m (Lost who) number = of_session-grows m number who leaves (session_at who m.sessions)
 
 pub machine-grows : (world : World) (event : PortEvent) (older : List PortEvent) (number : ℕ) → Grows ((machine world older).out number) ((machine world (event ∷ older)).out number)
 unfolding machine

@@ -41,7 +41,9 @@ has_tag unit = not (is_empty (tag_of unit)) && begins_with_space (behind_tag uni
 
 -- the commands, each with its arguments
 pub data Command : Type 0 where
+  Capability : Command
   Noop : Command
+  Logout : Command
 
 -- How a unit reads.
 pub data Parsed : Type 0 where
@@ -52,9 +54,17 @@ pub data Parsed : Type 0 where
   -- no command and no tag
   BadUntagged : Parsed
 
--- what stands behind a tag and its space, up to the end of its line, as a command, in any case
+-- whether a text is a word and the end of its line, in any case
+abbrev pub is_line : List ℕ → List ℕ → Bool
+is_line word text = str_eq_ignore_ascii_case text (word ++ crlf)
+
+-- what stands behind a tag and its space, up to the end of its line, as a command
 abbrev pub parsed_behind : List ℕ → List ℕ → Parsed
-parsed_behind tag text = if str_eq_ignore_ascii_case text (codes "NOOP" ++ crlf) then Tagged tag Noop else BadTagged tag
+parsed_behind tag text =
+    if is_line (codes "CAPABILITY") text then Tagged tag Capability
+    else (if is_line (codes "NOOP") text then Tagged tag Noop
+    else (if is_line (codes "LOGOUT") text then Tagged tag Logout
+    else BadTagged tag))
 
 unfoldable pub parsed : List ℕ → Parsed
 parsed unit = if has_tag unit then parsed_behind (tag_of unit) (drop 1 (behind_tag unit)) else BadUntagged

@@ -5,7 +5,7 @@ use Rattle.port_model.specs.History.{PortEvent, Opened, Piece, Ended, Lost, even
 use Rattle.imap_lexer.specs.declared.units.Form.{Form}
 use Rattle.imap_lexer.specs.Units.{Cut, first}
 use Rattle.mail_model.specs.declared.standing.Standing.{Standing}
-use Rattle.mail_model.specs.declared.standing.Standing.TheVariants.{Open, Closing, Lost as IsLost}
+use Rattle.mail_model.specs.declared.standing.Standing.TheVariants.{Open, Closing}
 use Rattle.mail_model.specs.Step.{World, Stepped, step, greeting, left_by}
 
 -- A session: its number, how its link stands, the form of the unit that it awaits, and the bytes that are no whole
@@ -33,7 +33,6 @@ pub record Taking : Type 0 where
 abbrev pub is_open : Standing → Bool
 is_open Open = true
 is_open Closing = false
-is_open IsLost = false
 
 -- how a link stands after a step
 abbrev pub standing_after : Bool → Standing
@@ -78,7 +77,7 @@ becomes new sessions = map (λ session. if session.number == new.number then new
 abbrev pub adds : ℕ → List ℕ → (ℕ → List ℕ) → ℕ → List ℕ
 adds number answers out who = if who == number then out who ++ answers else out who
 
--- how many sessions are at once: those that are neither closing nor lost
+-- how many sessions are at once: those that aren't closing
 abbrev pub at_once : List Session → ℕ
 at_once sessions = count_by (λ session. is_open session.standing) sessions
 
@@ -96,10 +95,12 @@ abbrev pub hears_piece : ℕ → List ℕ → World → Session → Taking
 hears_piece moment piece world session =
     if is_open session.standing then take_piece moment (taking_of world session) piece else taking_of world session
 
--- a session whose link ended or was lost
-abbrev pub leaves : Standing → World → Session → Taking
-leaves standing world session =
-    record { world = left_by world session.number; session = record { number = session.number; standing = standing; form = session.form; rest = session.rest }; answers = [] }
+-- A session whose link ended or was lost is closing. If it was so before, nothing changes.
+abbrev pub leaves : World → Session → Taking
+leaves world session =
+    if is_open session.standing
+    then record { world = left_by world session.number; session = record { number = session.number; standing = Closing; form = session.form; rest = session.rest }; answers = [] }
+    else taking_of world session
 
 -- the machine after the session of a number, where there is one, did something
 abbrev pub of_session : Machine → ℕ → (World → Session → Taking) → Machine
@@ -110,13 +111,13 @@ abbrev pub opens : Machine → ℕ → Stepped → Machine
 opens machine number greeted =
     record { world = greeted.world; sessions = machine.sessions ++ record { number = number; standing = standing_after greeted.closes; form = greeted.next; rest = [] } ∷ []; out = adds number greeted.answer machine.out; last = number }
 
--- What an event does: a new session is greeted, a piece is taken unit by unit, a peer that ended is closed once its
--- answers are sent, and a lost link is served no more.
+-- What an event does: a new session is greeted, a piece is taken unit by unit, and a session whose peer ended or whose
+-- link is lost is served no more. Nothing happens to a session that is closing.
 abbrev pub take_event : Machine → PortEvent → Machine
 take_event machine (Opened number kind) = opens machine number (greeting machine.world number kind (at_once machine.sessions))
 take_event machine (Piece number piece moment) = of_session machine number (hears_piece moment piece)
-take_event machine (Ended number) = of_session machine number (leaves Closing)
-take_event machine (Lost number) = of_session machine number (leaves IsLost)
+take_event machine (Ended number) = of_session machine number leaves
+take_event machine (Lost number) = of_session machine number leaves
 
 -- the machine before any event
 abbrev pub start : World → Machine

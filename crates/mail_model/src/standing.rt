@@ -7,10 +7,9 @@ ghost use Rattle.std.specs.Prelude.{◌≡◌};
 pub enum Standing {
     /// The session is served.
     Open,
-    /// The link is closed once its answers are sent. What still comes by it is dropped.
+    /// The link is closed once its answers are sent, or are dropped as those of a lost link are. What still comes by it
+    /// is dropped.
     Closing,
-    /// The link is lost: nothing can be sent.
-    Lost,
 }
 
 impl Standing {
@@ -22,7 +21,7 @@ impl Standing {
     {
         match self {
             Standing::Open => true,
-            Standing::Closing | Standing::Lost => false,
+            Standing::Closing => false,
         }
     }
 }

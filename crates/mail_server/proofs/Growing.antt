@@ -1,5 +1,5 @@
 -- What a call or two add to a history, where it is told.
-use Rattle.std.proofs.Common.{ℕ, ◌≡◌, true, false, List, [], ◌∷◌, Option, Some, None, length, refl, ap, sym, ◌∙◌, subst, append-nil, ◌≢◌, ◌==◌, rules, arith}
+use Rattle.std.proofs.Common.{ℕ, ◌≡◌, Bool, true, false, List, [], ◌∷◌, Option, Some, None, length, refl, ap, sym, ◌∙◌, subst, append-nil, ◌≢◌, ◌==◌, rules, arith}
 use Rattle.std.proofs.lemmas.Grind.{common_steps}
 use Rattle.std.proofs.lemmas.List.{nil_from_length}
 use Rattle.port_model.specs.declared.calls.PortCall.{PortCall}
@@ -10,9 +10,9 @@ use Rattle.port_model.specs.Ports.{Records}
 use Rattle.port_model.specs.Streams.{moment}
 use Rattle.port_model.specs.History.{Piece, Ended, Lost, sent}
 use Rattle.mail_model.specs.declared.standing.Standing.{Standing}
-use Rattle.mail_model.specs.declared.standing.Standing.TheVariants.{Open, Closing, Lost as IsLost}
-use Rattle.mail_model.specs.Step.{World, left_by}
-use Rattle.mail_model.specs.Machine.{Taking, is_open, taking_of, take_piece, hears_piece}
+use Rattle.mail_model.specs.declared.standing.Standing.TheVariants.{Open, Closing}
+use Rattle.mail_model.specs.Step.{World}
+use Rattle.mail_model.specs.Machine.{Session, Taking, is_open, leaves, taking_of, take_piece, hears_piece}
 use Rattle.mail_model.specs.Bytes.{take_bytes, IsAwaiting}
 use Rattle.mail_server.specs.declared.shared.Core.{Core}
 use Rattle.mail_server.specs.declared.link.Link.{Link}
@@ -39,10 +39,14 @@ grows_two Calls call call' (Some before) (Some mid) (Some later) one two each =
 pub no_items : (bytes : List ℕ) (count : ℕ) → count ≡ length bytes → true ≡ (count == 0) → bytes ≡ []
 no_items bytes count same h = nil_from_length bytes (let e : count ≡ 0 = search rules in sym same ∙ e)
 
+leaves-silent : (world : World) (session : Session) (opened : Bool) → is_open session.standing ≡ opened → (leaves world session).answers ≡ []
+leaves-silent world session true o = rw o refl
+leaves-silent world session false o = rw o refl
+
 -- The peer of a link closed its side.
 pub hears_end : (core : Core) (link : Link) (core' : Core) (link' : Link) (old new : Option (List PortCall)) → (room : ℕ) → Records (Read link.number room HasEnded) old new
-    → is_open link.standing ≡ true → link.queue.items ≡ [] → link'.queue.items ≡ [] → session_of link' ≡ record { number = link.number; standing = Closing; form = link.lexer.form; rest = link.lexer.bytes }
-    → ((world : World) → IsWorld core world → IsWorld core' (left_by world link.number)) → Grows (Hears core link core' link') old new
+    → is_open link.standing ≡ true → link.queue.items ≡ [] → link'.queue.items ≡ [] → ((world : World) → session_of link' ≡ (leaves world (session_of link)).session)
+    → ((world : World) → IsWorld core world → IsWorld core' (leaves world (session_of link)).world) → Grows (Hears core link core' link') old new
 hears_end core link core' link' old new room recorded o q q' s left =
     grows_one (Hears core link core' link') (Read link.number room HasEnded) old new recorded
     (λ before. record {
@@ -54,13 +58,13 @@ hears_end core link core' link' old new room recorded o q q' s left =
       same = λ none. absurd (cc);
       idle = λ some. q;
       was_open = λ some. o;
-      does = λ some world stands. record { world = left world stands; session = s; answers = q' };
+      does = λ some world stands. record { world = left world stands; session = s world; answers = q' ∙ sym (leaves-silent world (session_of link) true o) };
     })
 
 -- A read found the link lost.
 pub hears_loss : (core : Core) (link : Link) (core' : Core) (link' : Link) (old new : Option (List PortCall)) → (room : ℕ) → Records (Read link.number room WasLost) old new
-    → is_open link.standing ≡ true → link.queue.items ≡ [] → link'.queue.items ≡ [] → session_of link' ≡ record { number = link.number; standing = IsLost; form = link.lexer.form; rest = link.lexer.bytes }
-    → ((world : World) → IsWorld core world → IsWorld core' (left_by world link.number)) → Grows (Hears core link core' link') old new
+    → is_open link.standing ≡ true → link.queue.items ≡ [] → link'.queue.items ≡ [] → ((world : World) → session_of link' ≡ (leaves world (session_of link)).session)
+    → ((world : World) → IsWorld core world → IsWorld core' (leaves world (session_of link)).world) → Grows (Hears core link core' link') old new
 hears_loss core link core' link' old new room recorded o q q' s left =
     grows_one (Hears core link core' link') (Read link.number room WasLost) old new recorded
     (λ before. record {
@@ -72,7 +76,7 @@ hears_loss core link core' link' old new room recorded o q q' s left =
       same = λ none. absurd (cc);
       idle = λ some. q;
       was_open = λ some. o;
-      does = λ some world stands. record { world = left world stands; session = s; answers = q' };
+      does = λ some world stands. record { world = left world stands; session = s world; answers = q' ∙ sym (leaves-silent world (session_of link) true o) };
     })
 
 -- a piece that an open session takes byte by byte
@@ -121,8 +125,8 @@ lost_other number n before bytes other = rw (equal-other n number other) refl
 
 -- A send found the link lost.
 pub offered_lost : (core : Core) (link : Link) (core' : Core) (link' : Link) (old new : Option (List PortCall)) → Records (Send link.number link.queue.items SendLost) old new
-    → link'.queue.items ≡ [] → session_of link' ≡ record { number = link.number; standing = IsLost; form = link.lexer.form; rest = link.lexer.bytes }
-    → ((world : World) → IsWorld core world → IsWorld core' (left_by world link.number)) → Grows (Offered core link core' link') old new
+    → link'.queue.items ≡ [] → ((world : World) → session_of link' ≡ (leaves world (session_of link)).session)
+    → ((world : World) → IsWorld core world → IsWorld core' (leaves world (session_of link)).world) → Grows (Offered core link core' link') old new
 offered_lost core link core' link' old new recorded q s left =
     grows_one (Offered core link core' link') (Send link.number link.queue.items SendLost) old new recorded
     (λ before. record {
@@ -134,7 +138,7 @@ offered_lost core link core' link' old new recorded q s left =
       idle = λ none. (q, lost_same link.number before link.queue.items);
       whole = λ none. absurd (cc);
       dropped = λ some. (q, lost_same link.number before link.queue.items);
-      no_answer = λ world stands. (left world stands, s);
+      no_answer = λ world stands. (left world stands, s world);
       same = λ none. absurd (cc);
     })
 
@@ -144,7 +148,6 @@ asks_idle : (standing : Standing) (number : ℕ) (queue : List ℕ) (old new : O
 asks_idle Open number [] old new o q h = h
 asks_idle Open number (byte ∷ queue) old new o q h = cc
 asks_idle Closing number queue old new o q h = cc
-asks_idle IsLost number queue old new o q h = cc
 
 -- the calls that gave a piece
 pub asks_bytes : (link : Link) (piece : List ℕ) (reading room : ℕ) (old mid new : Option (List PortCall)) → room ≡ read_room

@@ -1,7 +1,8 @@
 -- What keeps the relation between a server and the machine.
-use Rattle.std.proofs.Common.{ℕ, zero, suc, ◌≡◌, ◌≢◌, ◌+◌, ◌<◌, ◌≤◌, ◌==◌, inl, inr, not, Bool, true, false, List, [], ◌∷◌, ◌++◌, map, length, take, drop, set, Option, Some, None, Ok, refl, sym, ◌∙◌, ap, subst, arith, append-nil}
+use Rattle.std.proofs.Common.{ℕ, suc, ◌≡◌, ◌≢◌, ◌+◌, ◌<◌, ◌≤◌, ◌==◌, inl, inr, not, Bool, true, false, List, [], ◌∷◌, ◌++◌, map, take, drop, set, Option, Some, None, Ok, refl, sym, ◌∙◌, ap, subst, arith, append-nil}
 use Rattle.std.specs.List.{filter, count_by, slice_get, remove}
 use Rattle.std.proofs.lemmas.Bool.Decides.{eqb_tells}
+use Rattle.std.proofs.lemmas.Option.{same_Some}
 use Rattle.std.proofs.lemmas.List.Elements.{filter-append}
 use Rattle.std.proofs.lemmas.List.{map-append}
 use Rattle.port_model.specs.declared.calls.Kind.{Kind}
@@ -10,20 +11,18 @@ use Rattle.port_model.specs.declared.calls.PortCall.TheVariants.{Accept, Close}
 use Rattle.port_model.specs.Ports.{Records}
 use Rattle.port_model.specs.History.{PortEvent, Opened, Piece, Ended, Lost, events, sent, is_closed}
 use Rattle.imap_lexer.specs.declared.units.Form.{Form}
-use Rattle.imap_lexer.specs.Units.{Cut, first}
+use Rattle.imap_lexer.specs.Units.{first}
 use Rattle.imap_lexer.specs.Lexer.{Awaited}
-use Rattle.mail_model.specs.declared.standing.Standing.{Standing}
-use Rattle.mail_model.specs.declared.standing.Standing.TheVariants.{Open, Closing, Lost as IsLost}
 use Rattle.mail_model.specs.Step.{World, Stepped, greeting}
-use Rattle.mail_model.specs.Machine.{Machine, Session, hears_piece, leaves, adds, Taking, of_session, is_open, session_at, becomes, at_once, takes, opens, taking_of, with_rest, take_unit, serve, take_piece, take_event, machine, after, standing_after}
+use Rattle.mail_model.specs.Machine.{Machine, Session, hears_piece, leaves, adds, Taking, of_session, is_open, session_at, becomes, at_once, takes, opens, take_event, machine, after, standing_after}
 use Rattle.mail_server.specs.declared.shared.Core.{Core}
 use Rattle.mail_server.specs.declared.link.Link.{Link}
 use Rattle.mail_server.specs.Core.{IsWorld, IsStep}
 use Rattle.mail_server.specs.Held.{Held, session_of, queue_of, Ascending}
 use Rattle.mail_server.specs.Heard.{IsOfLink, IsLossOf, and_event, acts, IsTaking, Hears, Offered}
-use Rattle.mail_server.specs.Serves.{is_kept, stands_lost, is_lost, Answered, OpenAreKept, Serves, Keeps, IsGreeted, Opens}
+use Rattle.mail_server.specs.Serves.{is_kept, is_loss, is_lost, Answered, OpenAreKept, Serves, Keeps, IsGreeted, Opens}
 use Rattle.mail_server.specs.Calls.{Grows}
-use Rattle.mail_server.proofs.Kept.{apart, same, ascending-within, ascending-here, ascending-becomes, ascending-without, ascending-more, queue-past, queue-here, queue-other, queue-without, queue-gone, queue-more, at-here, becomes-here, at-other, at-becomes, at-more-other, at-more, at-kept, found-kept, becomes-kept, kept-same, open_kept-same, open_kept-becomes, open_kept-more, at_once-kept, at_once-links, kept-closing, without-here, open_kept-closing, split-at, set-at, sessions-same}
+use Rattle.mail_server.proofs.Kept.{apart, same, ascending-within, ascending-here, ascending-becomes, ascending-without, ascending-more, queue-past, queue-here, queue-other, queue-without, queue-gone, queue-more, at-here, becomes-here, at-other, at-becomes, at-more-other, at-kept, found-kept, becomes-kept, kept-same, open_kept-same, open_kept-becomes, open_kept-more, at_once-kept, at_once-links, kept-closing, without-here, open_kept-closing, split-at, set-at, sessions-same}
 
 cases : {A : Type 0} (a b : ℕ) → (a ≡ b → A) → (a ≢ b → A) → A
 cases a b yes_case no_case = elim (eqb_tells a b) [ inl e ↦ yes_case e.1 | inr e ↦ no_case e.1 ]
@@ -57,30 +56,38 @@ serves-link : (first : World) (before later : List PortCall) (core core' : Core)
     → IsWorld core' (after first later).world
     → ((n : ℕ) → is_closed later n ≡ is_closed before n)
     → ((n : ℕ) → n ≢ link.number → sent later n ≡ sent before n)
-    → Answered (stands_lost new.standing) (sent later link.number) new.queue.items ((after first later).out link.number)
+    → ((n : ℕ) → n ≢ link.number → is_lost n (events later) ≡ is_lost n (events before))
+    → (is_open new.standing ≡ true → is_lost link.number (events later) ≡ false)
+    → Answered (is_lost link.number (events later)) (sent later link.number) new.queue.items ((after first later).out link.number)
     → Serves first before (holding core (front ++ link ∷ back) last)
     → Serves first later (holding core' (front ++ new ∷ back) last)
-serves-link first before later core core' front link new back last e becomes stands closed_same sent_same answers serves =
+serves-link first before later core core' front link new back last e becomes stands closed_same sent_same lost_same linked answers serves =
     let ordered = ascending-becomes 0 front link new back last e serves.ordered in
     let within : link.number ≤ last = ascending-within link.number back last (ascending-here 0 front link back last serves.ordered).1 in
     record {
       world = stands;
       sessions = sym (kept-same before later (after first later).sessions closed_same ∙ becomes.kept);
       answered = λ n. cases new.number n
-          (λ f. subst (λ (k : ℕ). Answered (is_lost (session_at k (after first later).sessions)) (sent later k) (queue_of k (front ++ new ∷ back)) ((after first later).out k)) f
-          (answered-same (stands_lost new.standing) (is_lost (session_at new.number (after first later).sessions)) (sent later link.number) (sent later new.number)
+          (λ f. subst (λ (k : ℕ). Answered (is_lost k (events later)) (sent later k) (queue_of k (front ++ new ∷ back)) ((after first later).out k)) f
+          (answered-same (is_lost link.number (events later)) (is_lost new.number (events later)) (sent later link.number) (sent later new.number)
           new.queue.items (queue_of new.number (front ++ new ∷ back)) ((after first later).out link.number) ((after first later).out new.number)
-          (ap is_lost becomes.here) (ap (sent later) e) (queue-here new.number 0 front new back last refl ordered) (ap (after first later).out e) answers))
-          (λ ne. answered-same (is_lost (session_at n (after first before).sessions)) (is_lost (session_at n (after first later).sessions)) (sent before n) (sent later n)
+          (ap (λ (k : ℕ). is_lost k (events later)) e) (ap (sent later) e) (queue-here new.number 0 front new back last refl ordered) (ap (after first later).out e) answers))
+          (λ ne. answered-same (is_lost n (events before)) (is_lost n (events later)) (sent before n) (sent later n)
           (queue_of n (front ++ link ∷ back)) (queue_of n (front ++ new ∷ back)) ((after first before).out n) ((after first later).out n)
-          (ap is_lost (becomes.others n ne)) (sent_same n (λ f. ne (e ∙ sym f))) (queue-other n front link new back e (λ f. ne (e ∙ f))) (becomes.out n ne) (serves.answered n));
+          (lost_same n (λ f. ne (e ∙ sym f))) (sent_same n (λ f. ne (e ∙ sym f))) (queue-other n front link new back e (λ f. ne (e ∙ f))) (becomes.out n ne) (serves.answered n));
       ordered = ordered;
       latest = serves.latest ∙ sym becomes.last;
       later_open = λ n above. (
         closed_same n ∙ (serves.later_open n above).0,
         becomes.others n (λ f. absurd (omega (arith, f, e, within, above))) ∙ (serves.later_open n above).1,
+        lost_same n (λ f. absurd (omega (arith, f, e, within, above))) ∙ (serves.later_open n above).2,
       );
       open_kept = open_kept-same before later (after first later).sessions closed_same becomes.open_kept;
+      open_linked = λ n s at opened. cases new.number n
+          (λ f. let its : session_at new.number (after first later).sessions ≡ Some s = subst (λ (k : ℕ). session_at k (after first later).sessions ≡ Some s) (sym f) at in
+          let same : session_of new ≡ s = same_Some (session_of new) s (sym becomes.here ∙ its) in
+          subst (λ (k : ℕ). is_lost k (events later) ≡ false) (sym e ∙ f) (linked (ap (λ (x : Session). is_open x.standing) same ∙ opened)))
+          (λ ne. lost_same n (λ f. ne (e ∙ sym f)) ∙ serves.open_linked n s (sym (becomes.others n ne) ∙ at) opened);
     }
 
 -- the session of a link that is held
@@ -140,8 +147,9 @@ serves_start core world stands = record {
   answered = λ n. record { whole = λ h. refl; front = λ h. absurd (cc h) };
   ordered = omega arith;
   latest = refl;
-  later_open = λ n above. (refl, refl);
+  later_open = λ n above. (refl, refl, refl);
   open_kept = tt;
+  open_linked = λ n s at opened. absurd (cc);
 }
 
 -- What an event of one link does to the machine.
@@ -155,9 +163,9 @@ event-takes m (Opened who kind) number s its found = absurd its
 event-takes m (Piece who piece moment) number s its found =
     let at : session_at who m.sessions ≡ Some s = subst (λ (n : ℕ). session_at n m.sessions ≡ Some s) (sym its) found in of-session m who (hears_piece moment piece) s at
 event-takes m (Ended who) number s its found =
-    let at : session_at who m.sessions ≡ Some s = subst (λ (n : ℕ). session_at n m.sessions ≡ Some s) (sym its) found in of-session m who (leaves Closing) s at
+    let at : session_at who m.sessions ≡ Some s = subst (λ (n : ℕ). session_at n m.sessions ≡ Some s) (sym its) found in of-session m who leaves s at
 event-takes m (Lost who) number s its found =
-    let at : session_at who m.sessions ≡ Some s = subst (λ (n : ℕ). session_at n m.sessions ≡ Some s) (sym its) found in of-session m who (leaves IsLost) s at
+    let at : session_at who m.sessions ≡ Some s = subst (λ (n : ℕ). session_at n m.sessions ≡ Some s) (sym its) found in of-session m who leaves s at
 
 machine-event : (world : World) (event : PortEvent) (older : List PortEvent) → machine world (event ∷ older) ≡ take_event (machine world older) event
 unfolding machine
@@ -169,51 +177,29 @@ after-event : (world : World) (before later : List PortCall) (event : PortEvent)
 after-event world before later event number s its are found =
     ap (machine world) are ∙ machine-event world event (events before) ∙ event-takes (after world before) event number s its found
 
--- A piece doesn't lose its session.
+-- What an event does to other sessions than that of its link, and to its own.
 
-lost-after : (closes : Bool) → stands_lost (standing_after closes) ≡ false
-lost-after true = refl
-lost-after false = refl
+lost-other : (n number : ℕ) (event : PortEvent) (older : List PortEvent) → IsOfLink number (Some event) → n ≢ number → is_lost n (event ∷ older) ≡ is_lost n older
+lost-other n number (Opened who kind) older its ne = absurd its
+lost-other n number (Piece who piece moment) older its ne = refl
+lost-other n number (Ended who) older its ne = refl
+lost-other n number (Lost who) older its ne = rw (apart who n (λ f. ne (sym f ∙ its))) refl
 
-Lives : Taking → Type 0
-Lives taking = stands_lost taking.session.standing ≡ false
+shuts : (world : World) (s : Session) (opened : Bool) → is_open s.standing ≡ opened
+    → (is_open (leaves world s).session.standing ≡ false) × ((leaves world s).answers ≡ []) × ((leaves world s).session.number ≡ s.number)
+shuts world s true o = rw o (refl, refl, refl)
+shuts world s false o = rw o (o, refl, refl)
 
-serve-cut : (turns moment : ℕ) (taking : Taking) (bytes : List ℕ) (opened : Bool) (cut : Option Cut) → Lives taking
-    → ((taking : Taking) (bytes : List ℕ) → Lives taking → Lives (serve turns moment taking bytes))
-    → is_open taking.session.standing ≡ opened → first taking.session.form bytes ≡ cut → Lives (serve (suc turns) moment taking bytes)
-unfolding serve Lives
-serve-cut turns moment taking bytes false cut lives rest o f = rw o lives
-serve-cut turns moment taking bytes true None lives rest o f = rw (o, f) lives
-serve-cut turns moment taking bytes true (Some cut) lives rest o f = rw (o, f) (rest (take_unit moment taking cut) cut.rest (lost-after _))
-
-serve-lives : (turns moment : ℕ) (taking : Taking) (bytes : List ℕ) → Lives taking → Lives (serve turns moment taking bytes)
-unfolding serve Lives
-serve-lives zero moment taking bytes lives = lives
-serve-lives (suc turns) moment taking bytes lives =
-    serve-cut turns moment taking bytes (is_open taking.session.standing) (first taking.session.form bytes) lives (serve-lives turns moment) refl refl
-
-piece-lives : (moment : ℕ) (taking : Taking) (piece : List ℕ) → stands_lost taking.session.standing ≡ false → stands_lost (take_piece moment taking piece).session.standing ≡ false
-unfolding take_piece Lives
-piece-lives moment taking piece lives =
-    serve-lives (length (taking.session.rest ++ piece)) moment (with_rest taking []) (taking.session.rest ++ piece) lives
-
-hears-lives : (moment : ℕ) (piece : List ℕ) (world : World) (s : Session) (opened : Bool) → is_open s.standing ≡ opened → stands_lost s.standing ≡ false
-    → stands_lost (acts (Some (Piece 0 piece moment)) world s).session.standing ≡ false
-hears-lives moment piece world s true o lives = rw o (piece-lives moment (taking_of world s) piece lives)
-hears-lives moment piece world s false o lives = rw o lives
-
--- where a session was lost by what it took part in, it got no answer
-silent-if-lost : (event : PortEvent) (world : World) (s : Session) → stands_lost s.standing ≡ false
-    → stands_lost (acts (Some event) world s).session.standing ≡ true → (acts (Some event) world s).answers ≡ []
-silent-if-lost (Opened who kind) world s lives lost = refl
-silent-if-lost (Piece who piece moment) world s lives lost = let bad = hears-lives moment piece world s (is_open s.standing) refl lives in cc
-silent-if-lost (Ended who) world s lives lost = refl
-silent-if-lost (Lost who) world s lives lost = refl
-
-open-lives : (standing : Standing) → is_open standing ≡ true → stands_lost standing ≡ false
-open-lives Open h = refl
-open-lives Closing h = refl
-open-lives IsLost h = cc
+-- A session that was open isn't lost but by a loss, which answers nothing and leaves it shut.
+after-own : (event : PortEvent) (older : List PortEvent) (number : ℕ) (world : World) (s : Session) → is_lost number older ≡ false
+    → (is_open (acts (Some event) world s).session.standing ≡ true → is_lost number (event ∷ older) ≡ false)
+    × (is_lost number (event ∷ older) ≡ true → (acts (Some event) world s).answers ≡ [])
+after-own (Opened who kind) older number world s lives = (λ opened. lives, λ lost. refl)
+after-own (Piece who piece moment) older number world s lives = (λ opened. lives, λ lost. absurd (cc (lost, lives)))
+after-own (Ended who) older number world s lives = (λ opened. lives, λ lost. absurd (cc (lost, lives)))
+after-own (Lost who) older number world s lives =
+    let shut = shuts world s (is_open s.standing) refl in
+    (λ opened. let bad : true ≡ false = sym opened ∙ shut.0 in cc, λ lost. shut.1)
 
 -- A link was asked.
 
@@ -232,12 +218,18 @@ heard-answered lost sent queue out answers s q silent = record {
 -- what was sent to a link that is held, and what its queue is
 answers-at : (first : World) (before : List PortCall) (core : Core) (front : List Link) (link : Link) (back : List Link) (last : ℕ)
     → Serves first before (holding core (front ++ link ∷ back) last)
-    → Answered (stands_lost link.standing) (sent before link.number) link.queue.items ((after first before).out link.number)
+    → Answered (is_lost link.number (events before)) (sent before link.number) link.queue.items ((after first before).out link.number)
 answers-at first before core front link back last serves =
-    answered-same (is_lost (session_at link.number (after first before).sessions)) (stands_lost link.standing) (sent before link.number) (sent before link.number)
+    answered-same (is_lost link.number (events before)) (is_lost link.number (events before)) (sent before link.number) (sent before link.number)
     (queue_of link.number (front ++ link ∷ back)) link.queue.items ((after first before).out link.number) ((after first before).out link.number)
-    (sym (ap is_lost (held-at first before core front link back last serves).1)) refl (sym (queue-here link.number 0 front link back last refl serves.ordered)) refl
+    refl refl (sym (queue-here link.number 0 front link back last refl serves.ordered)) refl
     (serves.answered link.number)
+
+-- the link of an open session isn't lost
+linked-at : (first : World) (before : List PortCall) (core : Core) (front : List Link) (link : Link) (back : List Link) (last : ℕ)
+    → Serves first before (holding core (front ++ link ∷ back) last) → is_open link.standing ≡ true → is_lost link.number (events before) ≡ false
+linked-at first before core front link back last serves opened =
+    serves.open_linked link.number (session_of link) (held-at first before core front link back last serves).1 opened
 
 hearing-event : (first : World) (before later : List PortCall) (core core' : Core) (front : List Link) (link new : Link) (back : List Link) (last : ℕ) (event : PortEvent)
     → new.number ≡ link.number
@@ -251,7 +243,8 @@ hearing-event first before later core core' front link new back last event e its
     let m = after first before in
     let taking : Taking = acts (Some event) m.world (session_of link) in
     let done : IsTaking core' new taking = does m.world serves.world in
-    let lives = open-lives link.standing opened in
+    let lives = linked-at first before core front link back last serves opened in
+    let own = after-own event (events before) link.number m.world (session_of link) lives in
     let is : after first later ≡ takes m taking
     = after-event first before later event link.number (session_of link) its are (held-at first before core front link back last serves).1 in
     let number : link.number ≡ taking.session.number = sym e ∙ ap (λ (s : Session). s.number) done.session in
@@ -259,21 +252,23 @@ hearing-event first before later core core' front link new back last event e its
     let out : (after first later).out link.number ≡ m.out link.number ++ taking.answers
     = ap (λ (x : Machine). x.out link.number) is ∙ adds-here link.number taking.session.number taking.answers m.out number in
     let was : sent before link.number ≡ m.out link.number
-    = heard-answers (stands_lost link.standing) (sent before link.number) (m.out link.number) link.queue.items lives empty (answers-at first before core front link back last serves) in
-    let silent : stands_lost new.standing ≡ true → taking.answers ≡ []
-    = λ lost. silent-if-lost event m.world (session_of link) lives (sym (ap (λ (s : Session). stands_lost s.standing) done.session) ∙ lost) in
+    = heard-answers (is_lost link.number (events before)) (sent before link.number) (m.out link.number) link.queue.items lives empty (answers-at first before core front link back last serves) in
+    let lost_is : (n : ℕ) → is_lost n (events later) ≡ is_lost n (event ∷ events before) = λ n. ap (is_lost n) are in
     serves-link first before later core core' front link new back last e
     (becomes-takes first before (after first later) taking core front link new back last e done.session is serves)
     stands closed_same (λ n ne. sent_same n)
-    (subst (Answered (stands_lost new.standing) (sent later link.number) new.queue.items) (sym out)
-    (heard-answered (stands_lost new.standing) (sent later link.number) new.queue.items (m.out link.number) taking.answers (sent_same link.number ∙ was) done.answers silent))
+    (λ n ne. lost_is n ∙ lost-other n link.number event (events before) its ne)
+    (λ opened. lost_is link.number ∙ own.0 (sym (ap (λ (s : Session). is_open s.standing) done.session) ∙ opened))
+    (subst (Answered (is_lost link.number (events later)) (sent later link.number) new.queue.items) (sym out)
+    (heard-answered (is_lost link.number (events later)) (sent later link.number) new.queue.items (m.out link.number) taking.answers (sent_same link.number ∙ was) done.answers
+    (λ lost. own.1 (sym (lost_is link.number) ∙ lost))))
     serves
 
 same-event : (first : World) (before later : List PortCall) (core core' : Core) (front : List Link) (link new : Link) (back : List Link) (last : ℕ)
     → new.number ≡ link.number → events later ≡ events before
     → ((n : ℕ) → is_closed later n ≡ is_closed before n) → ((n : ℕ) → n ≢ link.number → sent later n ≡ sent before n)
     → core' ≡ core → session_of new ≡ session_of link
-    → ((out : List ℕ) → Answered (stands_lost link.standing) (sent before link.number) link.queue.items out → Answered (stands_lost new.standing) (sent later link.number) new.queue.items out)
+    → ((lost : Bool) (out : List ℕ) → Answered lost (sent before link.number) link.queue.items out → Answered lost (sent later link.number) new.queue.items out)
     → Serves first before (holding core (front ++ link ∷ back) last)
     → Serves first later (holding core' (front ++ new ∷ back) last)
 same-event first before later core core' front link new back last e are closed_same sent_same c s answers serves =
@@ -282,8 +277,12 @@ same-event first before later core core' front link new back last e are closed_s
     serves-link first before later core core' front link new back last e
     (becomes-same first before (after first later) core front link new back last e s is serves)
     stands closed_same sent_same
-    (answers ((after first later).out link.number)
-    (subst (λ (x : Machine). Answered (stands_lost link.standing) (sent before link.number) link.queue.items (x.out link.number)) (sym is) (answers-at first before core front link back last serves)))
+    (λ n ne. ap (is_lost n) are)
+    (λ opened. ap (is_lost link.number) are ∙ linked-at first before core front link back last serves (sym (ap (λ (x : Session). is_open x.standing) s) ∙ opened))
+    (answers (is_lost link.number (events later)) ((after first later).out link.number)
+    (subst (λ (x : Machine). Answered (is_lost link.number (events later)) (sent before link.number) link.queue.items (x.out link.number)) (sym is)
+    (subst (λ (es : List PortEvent). Answered (is_lost link.number es) (sent before link.number) link.queue.items ((after first before).out link.number)) (sym are)
+    (answers-at first before core front link back last serves))))
     serves
 
 hearing-at : (first : World) (before later : List PortCall) (core core' : Core) (front : List Link) (link new : Link) (back : List Link) (last : ℕ) (event : Option PortEvent)
@@ -295,8 +294,8 @@ hearing-at first before later core core' front link new back last None hears is 
     same-event first before later core core' front link new back last e
     (hears.events_are ∙ ap (λ (x : Option PortEvent). and_event x (events before)) is)
     hears.closed_same (λ n ne. hears.sent_same n) nothing.0 nothing.1
-    (λ out a. answered-same (stands_lost link.standing) (stands_lost new.standing) (sent before link.number) (sent later link.number) link.queue.items new.queue.items out out
-    (ap (λ (s : Session). stands_lost s.standing) nothing.1) (hears.sent_same link.number) nothing.2 refl a)
+    (λ lost out a. answered-same lost lost (sent before link.number) (sent later link.number) link.queue.items new.queue.items out out
+    refl (hears.sent_same link.number) nothing.2 refl a)
     serves
 hearing-at first before later core core' front link new back last (Some event) hears is e serves =
     let happens : hears.event ≢ None = λ f. cc in
@@ -340,19 +339,23 @@ offered-loss first before later core core' front link new back last (Ended who) 
 offered-loss first before later core core' front link new back last (Lost who) e its are sent_same closed_same empty sent_here does serves =
     let m = after first before in
     let taking : Taking = acts (Some (Lost who)) m.world (session_of link) in
+    let shut = shuts m.world (session_of link) (is_open link.standing) refl in
     let done = does m.world serves.world in
     let is : after first later ≡ takes m taking
     = after-event first before later (Lost who) link.number (session_of link) its are (held-at first before core front link back last serves).1 in
     let stands : IsWorld core' (after first later).world = subst (λ (x : Machine). IsWorld core' x.world) (sym is) done.0 in
     let out : (after first later).out link.number ≡ m.out link.number ++ []
-    = ap (λ (x : Machine). x.out link.number) is ∙ adds-here link.number link.number [] m.out refl in
-    let lost : stands_lost new.standing ≡ true = ap (λ (s : Session). stands_lost s.standing) done.1 in
+    = ap (λ (x : Machine). x.out link.number) is ∙ adds-here link.number taking.session.number taking.answers m.out (sym shut.2) ∙ ap (λ (x : List ℕ). m.out link.number ++ x) shut.1 in
+    let itself : is_loss link.number (Lost who) ≡ true = same who link.number its in
+    let lost : is_lost link.number (events later) ≡ true = ap (is_lost link.number) are ∙ rw itself refl in
     serves-link first before later core core' front link new back last e
     (becomes-takes first before (after first later) taking core front link new back last e done.1 is serves)
     stands closed_same sent_same
-    (subst (Answered (stands_lost new.standing) (sent later link.number) new.queue.items) (sym out)
+    (λ n ne. ap (is_lost n) are ∙ lost-other n link.number (Lost who) (events before) its ne)
+    (λ opened. let bad : true ≡ false = sym opened ∙ ap (λ (s : Session). is_open s.standing) done.1 ∙ shut.0 in cc)
+    (subst (Answered (is_lost link.number (events later)) (sent later link.number) new.queue.items) (sym out)
     (subst (λ (b : Bool). Answered b (sent later link.number) new.queue.items (m.out link.number ++ [])) (sym lost)
-    (offered-lost (stands_lost link.standing) (sent before link.number) (sent later link.number) link.queue.items new.queue.items (m.out link.number) sent_here empty
+    (offered-lost (is_lost link.number (events before)) (sent before link.number) (sent later link.number) link.queue.items new.queue.items (m.out link.number) sent_here empty
     (answers-at first before core front link back last serves))))
     serves
 
@@ -365,8 +368,7 @@ offering-at first before later core core' front link new back last None offered 
     same-event first before later core core' front link new back last e
     (offered.events_are ∙ ap (λ (x : Option PortEvent). and_event x (events before)) is)
     offered.closed_same offered.sent_same nothing.0 nothing.1
-    (λ out a. subst (λ (b : Bool). Answered b (sent later link.number) new.queue.items out) (sym (ap (λ (s : Session). stands_lost s.standing) nothing.1))
-    (offered-some (stands_lost link.standing) (sent before link.number) (sent later link.number) link.queue.items new.queue.items out (offered.whole is) offered.idle a))
+    (λ lost out a. offered-some lost (sent before link.number) (sent later link.number) link.queue.items new.queue.items out (offered.whole is) offered.idle a)
     serves
 offering-at first before later core core' front link new back last (Some event) offered is e serves =
     let happens : offered.event ≢ None = λ f. cc in
@@ -390,18 +392,19 @@ closing-at first history core front link back last shut empty serves =
       world = serves.world;
       sessions = sym (kept-closing link.number history m.sessions ∙ ap (filter (λ session. not (link.number == session.number))) (sym serves.sessions) ∙ without-here 0 front link back last serves.ordered);
       answered = λ n. cases link.number n
-          (λ e. subst (λ (k : ℕ). Answered (is_lost (session_at k m.sessions)) (sent history k) (queue_of k (front ++ back)) (m.out k)) e
-          (answered-same (is_lost (session_at link.number m.sessions)) (is_lost (session_at link.number m.sessions)) (sent history link.number) (sent history link.number)
+          (λ e. subst (λ (k : ℕ). Answered (is_lost k (events history)) (sent history k) (queue_of k (front ++ back)) (m.out k)) e
+          (answered-same (is_lost link.number (events history)) (is_lost link.number (events history)) (sent history link.number) (sent history link.number)
           (queue_of link.number (front ++ link ∷ back)) (queue_of link.number (front ++ back)) (m.out link.number) (m.out link.number)
           refl refl (queue-gone 0 front link back last serves.ordered ∙ sym (queue-here link.number 0 front link back last refl serves.ordered ∙ empty)) refl (serves.answered link.number)))
-          (λ ne. answered-same (is_lost (session_at n m.sessions)) (is_lost (session_at n m.sessions)) (sent history n) (sent history n)
+          (λ ne. answered-same (is_lost n (events history)) (is_lost n (events history)) (sent history n) (sent history n)
           (queue_of n (front ++ link ∷ back)) (queue_of n (front ++ back)) (m.out n) (m.out n)
           refl refl (queue-without n front link back ne) refl (serves.answered n));
       ordered = ascending-without 0 front link back last serves.ordered;
       latest = serves.latest;
       later_open = λ n above.
-          (rw (apart link.number n (omega (arith, within, above))) (serves.later_open n above).0, (serves.later_open n above).1);
+          (rw (apart link.number n (omega (arith, within, above))) (serves.later_open n above).0, (serves.later_open n above).1, (serves.later_open n above).2);
       open_kept = open_kept-closing history 0 front link back last m.sessions serves.ordered shut (held-at first history core front link back last serves).0 serves.sessions serves.open_kept;
+      open_linked = serves.open_linked;
     }
 
 -- A link of a new session stands behind the others.
@@ -418,13 +421,12 @@ opening-at first history core core' links link last number kind greeted done is 
     let m' = after first later in
     let numbered : link.number ≡ number = ap (λ (s : Session). s.number) done.session in
     let all : m'.sessions ≡ m.sessions ++ session_of link ∷ [] = ap (λ (x : Machine). x.sessions) is ∙ ap (λ (s : Session). m.sessions ++ s ∷ []) (sym done.session) in
-    let lives : stands_lost link.standing ≡ false = ap (λ (s : Session). stands_lost s.standing) done.session ∙ lost-after greeted.closes in
     let above : last < link.number = omega (arith, numbered, follows) in
     let unseen = serves.later_open link.number above in
     let kept_new : filter (is_kept history) (session_of link ∷ []) ≡ session_of link ∷ [] = rw unseen.0 refl in
     let ordered : Ascending 0 (links ++ link ∷ []) link.number = ascending-more 0 links link last serves.ordered above in
     let was : sent history link.number ≡ m.out link.number
-    = heard-answers (is_lost (session_at link.number m.sessions)) (sent history link.number) (m.out link.number) (queue_of link.number links) (ap is_lost unseen.1)
+    = heard-answers (is_lost link.number (events history)) (sent history link.number) (m.out link.number) (queue_of link.number links) unseen.2
     (queue-past link.number 0 links last above serves.ordered) (serves.answered link.number) in
     let out : m'.out link.number ≡ m.out link.number ++ greeted.answer
     = ap (λ (x : Machine). x.out link.number) is ∙ adds-here link.number number greeted.answer m.out numbered in
@@ -433,21 +435,24 @@ opening-at first history core core' links link last number kind greeted done is 
       sessions = map-append session_of links (link ∷ []) ∙ ap (λ (ss : List Session). ss ++ session_of link ∷ []) serves.sessions
           ∙ sym (ap (filter (is_kept history)) all ∙ filter-append (is_kept history) m.sessions (session_of link ∷ []) ∙ ap (λ (ss : List Session). filter (is_kept history) m.sessions ++ ss) kept_new);
       answered = λ n. cases link.number n
-          (λ e. subst (λ (k : ℕ). Answered (is_lost (session_at k m'.sessions)) (sent history k) (queue_of k (links ++ link ∷ [])) (m'.out k)) e
-          (answered-same (stands_lost link.standing) (is_lost (session_at link.number m'.sessions)) (sent history link.number) (sent history link.number)
+          (λ e. subst (λ (k : ℕ). Answered (is_lost k (events history)) (sent history k) (queue_of k (links ++ link ∷ [])) (m'.out k)) e
+          (answered-same (is_lost link.number (events history)) (is_lost link.number (events history)) (sent history link.number) (sent history link.number)
           link.queue.items (queue_of link.number (links ++ link ∷ [])) (m.out link.number ++ greeted.answer) (m'.out link.number)
-          (ap is_lost (ap (session_at link.number) all ∙ at-more m.sessions (session_of link) unseen.1)) refl (queue-here link.number 0 links link [] link.number refl ordered) out
-          (heard-answered (stands_lost link.standing) (sent history link.number) link.queue.items (m.out link.number) greeted.answer was done.answer (λ lost. cc))))
-          (λ ne. answered-same (is_lost (session_at n m.sessions)) (is_lost (session_at n m'.sessions)) (sent history n) (sent history n)
+          refl refl (queue-here link.number 0 links link [] link.number refl ordered) out
+          (heard-answered (is_lost link.number (events history)) (sent history link.number) link.queue.items (m.out link.number) greeted.answer was done.answer (λ lost. absurd (cc (lost, unseen.2))))))
+          (λ ne. answered-same (is_lost n (events history)) (is_lost n (events history)) (sent history n) (sent history n)
           (queue_of n links) (queue_of n (links ++ link ∷ [])) (m.out n) (m'.out n)
-          (ap is_lost (ap (session_at n) all ∙ at-more-other n m.sessions (session_of link) ne)) refl (queue-more n links link ne)
+          refl refl (queue-more n links link ne)
           (ap (λ (x : Machine). x.out n) is ∙ rw (apart n number (λ f. ne (numbered ∙ sym f))) refl) (serves.answered n));
       ordered = subst (Ascending 0 (links ++ link ∷ [])) numbered ordered;
       latest = sym (ap (λ (x : Machine). x.last) is);
       later_open = λ n beyond.
           let earlier = serves.later_open n (omega (arith, follows, beyond)) in
-          (earlier.0, ap (session_at n) all ∙ at-more-other n m.sessions (session_of link) (omega (arith, numbered, beyond)) ∙ earlier.1);
+          (earlier.0, ap (session_at n) all ∙ at-more-other n m.sessions (session_of link) (omega (arith, numbered, beyond)) ∙ earlier.1, earlier.2);
       open_kept = open_kept-same history later m'.sessions (λ n. refl) (subst (OpenAreKept history) (sym all) (open_kept-more history m.sessions (session_of link) unseen.0 serves.open_kept));
+      open_linked = λ n s at opened. cases link.number n
+          (λ e. subst (λ (k : ℕ). is_lost k (events history) ≡ false) e unseen.2)
+          (λ ne. serves.open_linked n s (sym (ap (session_at n) all ∙ at-more-other n m.sessions (session_of link) ne) ∙ at) opened);
     }
 
 greeted-session : (link : Link) (number : ℕ) (closes : Bool) (form : Form) (greeted : Stepped) → link.number ≡ number → link.standing ≡ standing_after closes
@@ -499,6 +504,7 @@ keeps_waiting first history held number serves = record {
   latest = serves.latest;
   later_open = serves.later_open;
   open_kept = open_kept-same history (Accept number (Ok None) ∷ history) (after first history).sessions (λ n. refl) serves.open_kept;
+  open_linked = serves.open_linked;
 }
 
 -- Where the links are given by a place, and histories may not be told.

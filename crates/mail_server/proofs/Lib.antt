@@ -5,6 +5,7 @@ pub mod Keeping
 pub mod Chains
 pub mod Scripts
 pub mod Told
+pub mod Reached
 pub mod Progress
 pub mod Transfers
 pub mod Readings

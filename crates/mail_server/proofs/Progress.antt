@@ -1,5 +1,6 @@
 -- Each round takes an event of a script, and what the server answered is sent.
-use Rattle.std.proofs.Common.{ℕ, ◌-◌, ◌^◌, ◌<◌, ◌≤◌, ◌==◌, ◌≢◌, nat_eq, cond, Bool, true, false, List, [], ◌∷◌, ◌++◌, Option, Some, Result, Ok, Err, OnOk, is_err, map, filter, length, take, All, ◌≡◌, refl, ap, ap₂, sym, ◌∙◌, subst, inl, inr, ◌⊎◌, append-nil, take_all, true≢false, arith}
+use Rattle.std.proofs.Math.Path.{fun_ext}
+use Rattle.std.proofs.Common.{ℕ, zero, suc, ◌-◌, ◌^◌, ◌<◌, ◌≤◌, ◌==◌, ◌≢◌, nat_eq, cond, Bool, true, false, List, [], ◌∷◌, ◌++◌, Option, Some, Result, Ok, Err, OnOk, is_err, map, filter, length, take as take_front, ◌≡◌, refl, ap, ap₂, sym, ◌∙◌, subst, inl, inr, ◌⊎◌, append-nil, take_all, true≢false, arith}
 use Rattle.std.proofs.lemmas.Option.{same_Some}
 use Rattle.std.proofs.lemmas.List.{append_cancel_left}
 use Rattle.std.proofs.lemmas.Bool.Decides.{eqb_tells, nat_tests}
@@ -17,9 +18,12 @@ use Rattle.mail_server.specs.Held.{Held, session_of, queue_of, Ascending}
 use Rattle.mail_server.specs.Calls.{Offers, Closes, Asks, Accepts, AcceptsBelow}
 use Rattle.mail_server.specs.Script.{first_world, script_machine}
 use Rattle.mail_server.specs.Serves.{Serves, Serving, Keeps, is_kept, FlushCalls, RoundCalls}
-use Rattle.mail_server.specs.OnScript.{StaysOpen, plan_of, AreNext, Leads, IsOn, IsOnScript}
-use Rattle.mail_server.proofs.Scripts.{numbered-finds, number-found, none-lost, leads-start, script-last}
-use Rattle.mail_server.proofs.Told.{Told, chain_back, Plays, PlaysKept, left_in, offers_back, told_offer, closes_back, ClosesOn, told_close, told_closed, begins, begins_open, TakesNext, asks_back, told_ask, told_idle, accepts_back, told_accept}
+use Rattle.mail_server.specs.Serves.{is_lost}
+use Rattle.mail_server.specs.Rounds.{plan_of, left_in, is_empty, has_loss, offers, flush, take, reached, reached_by, script_sent}
+use Rattle.mail_server.specs.OnScript.{IsLinked, AreNext, Leads, IsOn, IsSent, IsOnScript}
+use Rattle.mail_server.proofs.Reached.{offers-are, closes-are, flush-is, take-is, take-sends}
+use Rattle.mail_server.proofs.Scripts.{numbered-finds, number-found, leads-start, script-last}
+use Rattle.mail_server.proofs.Told.{Told, chain_back, Plays, PlaysKept, OffersAll, offers_back, told_offer, closes_back, ClosesOn, told_close, told_closed, itself, begins, begins_open, TakesNext, asks_back, told_ask, told_idle, accepts_back, told_accept}
 
 -- Links by number
 
@@ -68,43 +72,87 @@ held-in : (history : List PortCall) (held : Held) (number : ℕ) (session : Sess
     → is_closed history number ≡ false → In session (map session_of held.links)
 held-in history held number session serves e kept = subst (In session) (sym serves.sessions) (found-in history number (after first_world history).sessions session e kept)
 
--- where all was sent nothing is queued
-none-queued : (script : List Event) (history : List PortCall) (held : Held) → Serves first_world history held → IsOn script history
-    → ((number : ℕ) → sent history number ≡ (after first_world history).out number) → (number : ℕ) → queue_of number held.links ≡ []
-none-queued script history held serves on all number =
-    let whole : sent history number ++ queue_of number held.links ≡ (after first_world history).out number =
-    (serves.answered number).whole (none-lost number 0 (after first_world history).last (after first_world history).sessions on.numbered) in
-    append_cancel_left (sent history number) (queue_of number held.links) [] (whole ∙ sym (all number) ∙ sym (append-nil (sent history number)))
+-- where all was sent, but for lost links, nothing is queued
+none-queued : (history : List PortCall) (held : Held) → Serves first_world history held
+    → ((number : ℕ) → is_lost number (events history) ≡ false → sent history number ≡ (after first_world history).out number) → (number : ℕ) → queue_of number held.links ≡ []
+none-queued history held serves all number = by_loss (is_lost number (events history)) refl
+  where
+    by_loss : (lost : Bool) → is_lost number (events history) ≡ lost → queue_of number held.links ≡ []
+    by_loss true h = ((serves.answered number).front h).0
+    by_loss false h =
+        append_cancel_left (sent history number) (queue_of number held.links) []
+        ((serves.answered number).whole h ∙ sym (all number h) ∙ sym (append-nil (sent history number)))
 
 -- Offers
 
-pub record Offered (script : List Event) (links : List Link) (before later : List PortCall) : Type 0 where
+-- What the links of a list are to be sent where none is lost, and what offers of it leave. Nothing was sent by a link
+-- that is lost by then.
+pub record Offered (script : List Event) (low : ℕ) (links : List Link) (before later : List PortCall) : Type 0 where
   pub on : IsOn script later
-  pub left : left_in script later ≡ left_in script before
-  pub same : events later ≡ events before
-  pub all : (number : ℕ) → sent later number ≡ sent before number ++ queue_of number links
+  pub shorter : length (left_in script later) ≤ length (left_in script before)
+  pub out_same : (number : ℕ) → (after first_world later).out number ≡ (after first_world before).out number
+  pub all : (number : ℕ) → sent later number ≡ sent before number ++ cond (is_lost number (events later)) [] (queue_of number links)
+  pub below : (number : ℕ) → number ≤ low → is_lost number (events later) ≡ is_lost number (events before)
+  pub still : (number : ℕ) → is_lost number (events later) ≡ false → is_lost number (events before) ≡ false
+
+none-either : (lost : Bool) (bytes : List ℕ) → bytes ≡ bytes ++ cond lost [] []
+none-either true bytes = sym (append-nil bytes)
+none-either false bytes = sym (append-nil bytes)
+
+none-more : (lost : Bool) (bytes queue : List ℕ) → queue ≡ [] → bytes ++ cond lost [] queue ≡ bytes
+none-more true bytes queue e = append-nil bytes
+none-more false bytes queue e = ap (λ (q : List ℕ). bytes ++ q) e ∙ append-nil bytes
+
+-- the offers of a list, by that of its first link
+offers_step : (script : List Event) (link : Link) (links : List Link) (low last : ℕ) (before mid later : List PortCall) → low < link.number → queue_of link.number links ≡ []
+    → OffersAll script link.number link.queue.items before mid → Offered script link.number links mid later → Offered script low (link ∷ links) before later
+offers_step script link links low last before mid later above behind one rest = record {
+  on = rest.on;
+  shorter = omega (arith, rest.shorter, one.shorter);
+  out_same = λ number. rest.out_same number ∙ one.out_same number;
+  all = λ number. elim (eqb_tells link.number number) [ inl p ↦ subst All p.1 all-here | inr q ↦ rw q.0 (all-other number q.0) ];
+  below = λ number h.
+      let other : (link.number == number) ≡ false = grind (arith, nat_tests, above) in
+      rest.below number (omega (arith, above)) ∙ (one.others number other).1;
+  still = λ number h. elim (eqb_tells link.number number) [
+    | inl p ↦ subst (λ (n : ℕ). is_lost n (events later) ≡ false → is_lost n (events before) ≡ false) p.1 (λ e. one.still (rest.still link.number e)) h
+    | inr q ↦ sym (one.others number q.0).1 ∙ rest.still number h
+  ];
+}
+  where
+    All : ℕ → Type 0
+    All number = sent later number ≡ sent before number ++ cond (is_lost number (events later)) [] (cond (link.number == number) link.queue.items (queue_of number links))
+
+    all-here : sent later link.number ≡ sent before link.number ++ cond (is_lost link.number (events later)) [] (cond (link.number == link.number) link.queue.items (queue_of link.number links))
+    all-here =
+        rw (itself link.number) (rest.all link.number ∙ none-more (is_lost link.number (events later)) (sent mid link.number) (queue_of link.number links) behind
+        ∙ one.own ∙ ap (λ (b : Bool). sent before link.number ++ cond b [] link.queue.items) (sym (rest.below link.number (omega arith))))
+
+    all-other : (number : ℕ) → (link.number == number) ≡ false → sent later number ≡ sent before number ++ cond (is_lost number (events later)) [] (queue_of number links)
+    all-other number other = rest.all number ∙ ap (λ (a : List ℕ). a ++ cond (is_lost number (events later)) [] (queue_of number links)) (one.others number other).0
 
 offers_all : (script : List Event) (links : List Link) (low last : ℕ) (before later : List PortCall) → Chain (Told Offers (Plays script)) links before later
-    → Ascending low links last → IsOn script before → Offered script links before later
-offers_all script [] low last before later c asc on =
-    subst (Offered script [] before) (sym c) (record { on = on; left = refl; same = refl; all = λ number. sym (append-nil (sent before number)) })
-offers_all script (link ∷ links) low last before later c asc on =
-    let one = told_offer script link before c.0 c.1 on in
-    let rest = offers_all script links link.number last c.0 later c.2 asc.1 one.on in
-    record {
-      on = rest.on;
-      left = rest.left ∙ one.left;
-      same = rest.same ∙ one.same;
-      all = λ number. elim (eqb_tells link.number number) [
-        | inl p ↦
-            let none : queue_of number links ≡ [] = queue-below number link.number last links asc.1 (omega (arith, p.1)) in
-            let its : sent c.0 number ≡ sent before number ++ link.queue.items = rw p.0 at (one.all number) in
-            rw p.0 (rest.all number ∙ ap₂ (λ (a b : List ℕ). a ++ b) its none ∙ append-nil (sent before number ++ link.queue.items))
-        | inr q ↦
-            let its : sent c.0 number ≡ sent before number = rw q.0 at (one.all number) in
-            rw q.0 (rest.all number ∙ ap (λ (a : List ℕ). a ++ queue_of number links) its)
-      ];
-    }
+    → Ascending low links last → IsOn script before → ((number : ℕ) → is_lost number (events before) ≡ true → queue_of number links ≡ []) → Offered script low links before later
+offers_all script [] low last before later c asc on none =
+    subst (Offered script low [] before) (sym c)
+    (record {
+      on = on;
+      shorter = omega arith;
+      out_same = λ number. refl;
+      all = λ number. none-either (is_lost number (events before)) (sent before number);
+      below = λ number h. refl;
+      still = λ number h. h;
+    })
+offers_all script (link ∷ links) low last before later c asc on none =
+    let here : queue_of link.number (link ∷ links) ≡ link.queue.items = rw (itself link.number) refl in
+    let one = told_offer script link before c.0 c.1 on (λ lost. sym here ∙ none link.number lost) in
+    let behind : queue_of link.number links ≡ [] = queue-below link.number link.number last links asc.1 (omega arith) in
+    let rest = offers_all script links link.number last c.0 later c.2 asc.1 one.on
+    (λ number lost. elim (eqb_tells link.number number) [
+      | inl p ↦ subst (λ (n : ℕ). queue_of n links ≡ []) p.1 behind
+      | inr q ↦ rw q.0 at (none number (sym (one.others number q.0).1 ∙ lost))
+    ]) in
+    offers_step script link links low last before c.0 later asc.0 behind one rest
 
 -- Closes
 
@@ -186,11 +234,14 @@ asks_takes script session (link ∷ links) before later c on turn (inr has) quie
 
 -- A flush
 
--- What a flush leaves: all was sent, and the sessions whose links aren't closed are open.
+-- What a flush leaves: all was sent but by links that are lost, by which nothing was, and the sessions whose links aren't
+-- closed are open.
 pub record Flushed (script : List Event) (before later : List PortCall) : Type 0 where
   pub on : IsOn script later
   pub shorter : length (left_in script later) ≤ length (left_in script before)
-  pub all : (number : ℕ) → sent later number ≡ (after first_world later).out number
+  pub all : (number : ℕ) → is_lost number (events later) ≡ false → sent later number ≡ (after first_world later).out number
+  pub none : (number : ℕ) → is_lost number (events later) ≡ true → sent later number ≡ sent before number
+  pub is : later ≡ flush script before
   pub opened : (number : ℕ) (session : Session) → is_closed later number ≡ false → session_at number (after first_world later).sessions ≡ Some session → is_open session.standing ≡ true
 
 plays-kept : (script : List Event) (history : List PortCall) (held : Held) → Serves first_world history held → Plays script history → PlaysKept script history
@@ -205,23 +256,32 @@ closed-bool : (b : Bool) → (b ≡ true → ⊥) → b ≡ false
 closed-bool true h = absurd (h refl)
 closed-bool false h = refl
 
-offered_sent : (script : List Event) (held : Held) (before mid : List PortCall) → Serves first_world before held → IsOn script before → Offered script held.links before mid
-    → (number : ℕ) → sent mid number ≡ (after first_world mid).out number
-offered_sent script held before mid serves on offered number =
+offered_sent : (script : List Event) (held : Held) (before mid : List PortCall) → Serves first_world before held → Offered script 0 held.links before mid
+    → (number : ℕ) → is_lost number (events mid) ≡ false → sent mid number ≡ (after first_world mid).out number
+offered_sent script held before mid serves offered number linked =
     offered.all number
-    ∙ (serves.answered number).whole (none-lost number 0 (after first_world before).last (after first_world before).sessions on.numbered)
-    ∙ ap (λ (es : List PortEvent). (machine first_world es).out number) (sym offered.same)
+    ∙ ap (λ (b : Bool). sent before number ++ cond b [] (queue_of number held.links)) linked
+    ∙ (serves.answered number).whole (offered.still number linked)
+    ∙ sym (offered.out_same number)
 
-flushed_on : (script : List Event) (offered : Held) (before mid later : List PortCall) (links : List Link) → Offered script links before mid
-    → ((number : ℕ) → sent mid number ≡ (after first_world mid).out number) → Serves first_world mid offered
-    → Chain (Told Closes (PlaysKept script)) offered.links mid later → Flushed script before later
-flushed_on script offered before mid later links offers all serves chain =
+offered_lost : (script : List Event) (held : Held) (before mid : List PortCall) → Offered script 0 held.links before mid
+    → (number : ℕ) → is_lost number (events mid) ≡ true → sent mid number ≡ sent before number
+offered_lost script held before mid offered number lost =
+    offered.all number ∙ ap (λ (b : Bool). sent before number ++ cond b [] (queue_of number held.links)) lost ∙ append-nil (sent before number)
+
+flushed_on : (script : List Event) (held offered : Held) (before mid later : List PortCall) → Serves first_world before held → Offered script 0 held.links before mid
+    → mid ≡ offers script before → Serves first_world mid offered → Chain (Told Closes (PlaysKept script)) offered.links mid later → Flushed script before later
+flushed_on script held offered before mid later serves_before offers is serves chain =
     let closes = closes_all script offered.links mid later chain offers.on in
-    let quiet = all-quiet 0 offered.last offered.links serves.ordered (none-queued script mid offered serves offers.on all) in
+    let all = offered_sent script held before mid serves_before offers in
+    let quiet = all-quiet 0 offered.last offered.links serves.ordered (none-queued mid offered serves all) in
+    let lost_same : (number : ℕ) → is_lost number (events later) ≡ is_lost number (events mid) = λ number. ap (is_lost number) closes.same in
     record {
       on = closes.on;
-      shorter = omega (arith, closes.shorter, ap (λ (l : List Event). length l) offers.left);
-      all = λ number. closes.sent_same number ∙ all number ∙ ap (λ (es : List PortEvent). (machine first_world es).out number) (sym closes.same);
+      shorter = omega (arith, closes.shorter, offers.shorter);
+      all = λ number linked. closes.sent_same number ∙ all number (sym (lost_same number) ∙ linked) ∙ ap (λ (es : List PortEvent). (machine first_world es).out number) (sym closes.same);
+      none = λ number lost. closes.sent_same number ∙ offered_lost script held before mid offers number (sym (lost_same number) ∙ lost);
+      is = flush-is script before mid later is (closes-are script offered mid later serves chain);
       opened = λ number session kept e. open-bool (is_open session.standing) (λ shut.
           let its : session_at number (after first_world mid).sessions ≡ Some session = subst (λ (es : List PortEvent). session_at number (machine first_world es).sessions ≡ Some session) closes.same e in
           let was_kept : is_closed mid number ≡ false = closed-bool (is_closed mid number) (λ was. true≢false (sym (closes.still number was) ∙ kept)) in
@@ -238,9 +298,9 @@ flush_on script held flushed before later f serves serves' plays on =
     (subst (Chain Offers held.links (Some before)) closes.1 f.offers) in
     let begun : Chain (Told Offers (Plays script)) held.links before closes.0 =
     subst (λ (b : List PortCall). Chain (Told Offers (Plays script)) held.links b closes.0) (sym (same_Some before offers.0 offers.1)) offers.3 in
-    let offered = offers_all script held.links 0 held.last before closes.0 begun serves.ordered on in
+    let offered = offers_all script held.links 0 held.last before closes.0 begun serves.ordered on (λ number lost. ((serves.answered number).front lost).0) in
     let serves_mid : Serves first_world closes.0 f.offered = subst (λ (m : Option (List PortCall)). Serving first_world m f.offered) closes.1 (f.keeps first_world serves) in
-    flushed_on script f.offered before closes.0 later held.links offered (offered_sent script held before closes.0 serves on offered) serves_mid closes.3
+    flushed_on script held f.offered before closes.0 later serves offered (offers-are script held before closes.0 serves begun) serves_mid closes.3
 
 -- A round
 
@@ -252,20 +312,19 @@ empty : (left : List Event) → length left ≤ 0 → left ≡ []
 empty [] h = refl
 empty (event ∷ later) h = absurd (omega arith)
 
--- The next event is a piece: its session is open and has nothing to send, so that it is asked.
-piece_less : (script : List Event) (flushed : Held) (before mid a later : List PortCall) → Flushed script before mid → Serves first_world mid flushed
+-- The next event is that of a session, which is open and has nothing to send, so that it is asked.
+turn_less : (script : List Event) (flushed : Held) (before mid a later : List PortCall) → Flushed script before mid → Serves first_world mid flushed
     → left_in script a ≡ left_in script mid → IsOn script a → Chain (Told Asks (Plays script)) flushed.links a later
-    → (number : ℕ) (bytes : List ℕ) (at : ℕ) (rest : List Event) → left_in script mid ≡ Piece number bytes at ∷ rest
+    → (number : ℕ) → IsLinked (is_closed mid) (after first_world mid).last number → begins number (left_in script mid) ≡ true
     → length (left_in script later) < length (left_in script mid)
-piece_less script flushed before mid a later f serves same on chain number bytes at rest e =
-    let next : AreNext (is_closed mid) (after first_world mid).last (Piece number bytes at ∷ rest) = subst (AreNext (is_closed mid) (after first_world mid).last) e f.on.next in
-    let found = numbered-finds number 0 (after first_world mid).last (after first_world mid).sessions f.on.numbered next.0.above next.0.opened in
+turn_less script flushed before mid a later f serves same on chain number linked turn_is =
+    let found = numbered-finds number 0 (after first_world mid).last (after first_world mid).sessions f.on.numbered linked.above linked.opened in
     let its : found.0.number ≡ number = number-found number (after first_world mid).sessions found.0 found.1 in
-    let itself : (number == found.0.number) ≡ true = grind (arith, nat_tests, its) in
-    let turn : begins found.0.number (left_in script a) ≡ true = subst (λ (l : List Event). begins found.0.number l ≡ true) (sym (same ∙ e)) itself in
-    let quiet = all-quiet 0 flushed.last flushed.links serves.ordered (none-queued script mid flushed serves f.on f.all) in
+    let turn : begins found.0.number (left_in script a) ≡ true =
+    subst (λ (n : ℕ). begins n (left_in script a) ≡ true) (sym its) (subst (λ (l : List Event). begins number l ≡ true) (sym same) turn_is) in
+    let quiet = all-quiet 0 flushed.last flushed.links serves.ordered (none-queued mid flushed serves f.all) in
     let less = asks_takes script found.0 flushed.links a later chain on turn
-    (held-in mid flushed number found.0 serves found.1 next.0.kept) quiet (f.opened number found.0 next.0.kept found.1) in
+    (held-in mid flushed number found.0 serves found.1 linked.kept) quiet (f.opened number found.0 linked.kept found.1) in
     subst (λ (l : List Event). length (left_in script later) < length l) same less
 
 round_less : (script : List Event) (flushed : Held) (before mid a later : List PortCall) → Flushed script before mid → Serves first_world mid flushed
@@ -281,28 +340,91 @@ round_less script flushed before mid a later f serves t chain some (Opens kind �
     let less : length (left_in script a) < length (left_in script mid) = t.takes (ap begins_open e) in
     omega (arith, asks.1, less, f.shorter)
 round_less script flushed before mid a later f serves t chain some (Piece number bytes at ∷ rest) e =
-    let less = piece_less script flushed before mid a later f serves (t.same (ap begins_open e)) t.on chain number bytes at rest e in
+    let next = subst (AreNext (is_closed mid) (after first_world mid).last) e f.on.next in
+    let less = turn_less script flushed before mid a later f serves (t.same (ap begins_open e)) t.on chain number next.0.0 (ap (begins number) e ∙ itself number) in
     omega (arith, less, f.shorter)
-round_less script flushed before mid a later f serves t chain some (Ends number ∷ rest) e = absurd (subst (AreNext (is_closed mid) (after first_world mid).last) e f.on.next).0
-round_less script flushed before mid a later f serves t chain some (Loses number ∷ rest) e = absurd (subst (AreNext (is_closed mid) (after first_world mid).last) e f.on.next).0
+round_less script flushed before mid a later f serves t chain some (Ends number ∷ rest) e =
+    let next = subst (AreNext (is_closed mid) (after first_world mid).last) e f.on.next in
+    let less = turn_less script flushed before mid a later f serves (t.same (ap begins_open e)) t.on chain number next.0 (ap (begins number) e ∙ itself number) in
+    omega (arith, less, f.shorter)
+round_less script flushed before mid a later f serves t chain some (Loses number ∷ rest) e =
+    let next = subst (AreNext (is_closed mid) (after first_world mid).last) e f.on.next in
+    let less = turn_less script flushed before mid a later f serves (t.same (ap begins_open e)) t.on chain number next.0 (ap (begins number) e ∙ itself number) in
+    omega (arith, less, f.shorter)
+
+-- what the flush of a round reached is what was sent by its end
+reached-sent : (script : List Event) (before flushed : List PortCall) → Flushed script before flushed → reached flushed (sent before) ≡ sent flushed
+reached-sent script before flushed f = fun_ext (λ number. by_loss number (is_lost number (events flushed)) refl)
+  where
+    by_loss : (number : ℕ) (lost : Bool) → is_lost number (events flushed) ≡ lost → reached flushed (sent before) number ≡ sent flushed number
+    by_loss number true h = rw h (sym (f.none number h))
+    by_loss number false h = rw h (sym (f.all number h))
+
+-- What a round leaves, where something of the script was left.
+pub record RoundOn (script : List Event) (before later : List PortCall) : Type 0 where
+  pub on : IsOn script later
+  pub less : length (left_in script later) < length (left_in script before)
+  pub flushed : List PortCall
+  pub flush : Flushed script before flushed
+  pub take_is : later ≡ take script flushed
 
 -- A round keeps to the script, and takes something of it.
 pub round_on : (script : List Event) (held : Held) (before later : List PortCall) → RoundCalls held (Some before) (Some later)
-    → Serves first_world before held → Plays script later → (script_machine script).last < 2 ^ 32 → IsOn script before
-    → IsOn script later × (left_in script before ≢ [] → length (left_in script later) < length (left_in script before))
-round_on script held before later r serves plays numbers on =
+    → Serves first_world before held → Plays script later → (script_machine script).last < 2 ^ 32 → IsOn script before → left_in script before ≢ [] → RoundOn script before later
+round_on script held before later r serves plays numbers on some =
     let links = r.flushed.links in
-    let whole : take (length links) links ≡ links = take_all (length links) links (omega arith) in
+    let whole : take_front (length links) links ≡ links = take_all (length links) links (omega arith) in
     let asks = chain_back Asks (Plays script) (asks_back script) links r.takes.0 later plays (subst (λ (ls : List Link). Chain Asks ls r.takes.0 (Some later)) whole r.takes.2) in
     let accepted : AcceptsBelow (nat_eq r.flushed.last (2 ^ 32 - 1)) r.flushed.last r.mid (Some asks.0) = subst (Accepts r.flushed.last r.mid) asks.1 r.takes.1 in
     let accept = accepts_back script (nat_eq r.flushed.last (2 ^ 32 - 1)) r.flushed.last r.mid asks.0 asks.2 accepted in
     let flush : FlushCalls held (Some before) (Some accept.0) = subst (FlushCalls held (Some before)) accept.1 r.flush in
     let serves_mid : Serves first_world accept.0 r.flushed = subst (λ (m : Option (List PortCall)). Serving first_world m r.flushed) accept.1 (r.keeps first_world serves) in
     let flushed = flush_on script held r.flushed before accept.0 flush serves serves_mid accept.2 on in
-    let t = told_accept script (nat_eq r.flushed.last (2 ^ 32 - 1)) (2 ^ 32 - 1) r.flushed.last accept.0 asks.0 refl (omega arith)
-    (subst (λ (m : Option (List PortCall)). AcceptsBelow (nat_eq r.flushed.last (2 ^ 32 - 1)) r.flushed.last m (Some asks.0)) accept.1 accepted) serves_mid.latest asks.2 flushed.on in
+    let accepts : AcceptsBelow (nat_eq r.flushed.last (2 ^ 32 - 1)) r.flushed.last (Some accept.0) (Some asks.0) =
+    subst (λ (m : Option (List PortCall)). AcceptsBelow (nat_eq r.flushed.last (2 ^ 32 - 1)) r.flushed.last m (Some asks.0)) accept.1 accepted in
+    let t = told_accept script (nat_eq r.flushed.last (2 ^ 32 - 1)) (2 ^ 32 - 1) r.flushed.last accept.0 asks.0 refl (omega arith) accepts serves_mid.latest asks.2 flushed.on in
     let all = asks_all script links asks.0 later asks.3 t.on in
-    (all.0, λ some. round_less script r.flushed before accept.0 asks.0 later flushed serves_mid t asks.3 some (left_in script accept.0) refl)
+    record {
+      on = all.0;
+      less = round_less script r.flushed before accept.0 asks.0 later flushed serves_mid t asks.3 some (left_in script accept.0) refl;
+      flushed = accept.0;
+      flush = flushed;
+      take_is = take-is script r.flushed accept.0 asks.0 later serves_mid accepts asks.2 asks.3;
+    }
+
+-- The rounds that are to come
+
+more-turns : (script : List Event) (turns : ℕ) (before : List PortCall) (got : ℕ → List ℕ) → left_in script before ≢ []
+    → reached_by (suc turns) script before got ≡ reached_by turns script (take script (flush script before)) (reached (flush script before) got)
+unfolding reached_by
+more-turns script turns before got some = some-left (left_in script before) refl
+  where
+    some-left : (left : List Event) → left_in script before ≡ left
+        → cond (is_empty (left_in script before)) (reached (flush script before) got) (reached_by turns script (take script (flush script before)) (reached (flush script before) got))
+        ≡ reached_by turns script (take script (flush script before)) (reached (flush script before) got)
+    some-left [] e = absurd (some e)
+    some-left (event ∷ later) e = rw e refl
+
+last-turn : (script : List Event) (turns : ℕ) (before : List PortCall) (got : ℕ → List ℕ) → left_in script before ≡ [] → reached_by turns script before got ≡ reached (flush script before) got
+unfolding reached_by
+last-turn script zero before got e = refl
+last-turn script (suc turns) before got e = rw e refl
+
+sends-next : (script : List Event) (before later : List PortCall) (turns : ℕ) → RoundOn script before later → left_in script before ≢ []
+    → length (left_in script before) ≤ turns → reached_by turns script before (sent before) ≡ reached_by (length script) script [] (λ number. []) → IsSent script later
+sends-next script before later zero r some enough leads = absurd (omega (arith, not-empty (left_in script before) some, enough))
+sends-next script before later (suc turns) r some enough leads =
+    let flushed_is : r.flushed ≡ flush script before = r.flush.is in
+    let later_is : later ≡ take script (flush script before) = r.take_is ∙ ap (take script) flushed_is in
+    let got : reached (flush script before) (sent before) ≡ sent later =
+    ap (λ (f : List PortCall). reached f (sent before)) (sym flushed_is) ∙ reached-sent script before r.flushed r.flush
+    ∙ fun_ext (λ number. sym (ap (λ (calls : List PortCall). sent calls number) r.take_is ∙ take-sends script r.flushed number)) in
+    record {
+      turns = turns;
+      enough = let le : length (left_in script before) ≤ suc turns = enough in omega (arith, r.less, le);
+      leads = ap₂ (λ (calls : List PortCall) (reach : ℕ → List ℕ). reached_by turns script calls reach) later_is (sym got)
+          ∙ sym (more-turns script turns before (sent before) some) ∙ leads;
+    }
 
 -- The same for ports and servers
 
@@ -314,12 +436,16 @@ on_ok (Err fault) went p = absurd (cc)
 told : (ports : Scripted) → ports.starved ≡ false → told_history ports ≡ Some ports.calls
 told ports h = rw h refl
 
+on-start : (script : List Event) → AreEvents script → IsOn script []
+unfolding machine
+on-start script are = leads-start script are
+
 -- A script begins on a server that holds nothing.
-pub script_begins : (script : List Event) (ports : Scripted) (held : Held) → AreEvents script → All StaysOpen script → Serves first_world [] held
+pub script_begins : (script : List Event) (ports : Scripted) (held : Held) → AreEvents script → Serves first_world [] held
     → ports ≡ record { plan = plan_of script; calls = []; starved = false; starvations = 0 } → IsOnScript script ports held
-script_begins script ports held are stays serves e =
+script_begins script ports held are serves e =
     subst (λ (p : Scripted). IsOnScript script p held) (sym e)
-    (record { told = refl; plan = refl; serves = serves; leads = leads-start script are stays; numbers = subst (λ (n : ℕ). n < 2 ^ 32) (sym (script-last script)) are.numbers })
+    (record { told = refl; plan = refl; serves = serves; leads = on-start script are; sends = record { turns = length script; enough = omega arith; leads = refl }; numbers = subst (λ (n : ℕ). n < 2 ^ 32) (sym (script-last script)) are.numbers })
 
 serves-next : (ports ports' : Scripted) (held held' : Held) → ports.starved ≡ false → ports'.starved ≡ false → Keeps (told_history ports) held (told_history ports') held'
     → Serves first_world ports.calls held → Serves first_world ports'.calls held'
@@ -330,26 +456,44 @@ serves-next ports ports' held held' h h' keeps serves =
 -- A round keeps a server in the middle of a script, and less is left of it.
 pub round_goes_on : (script : List Event) (ports ports' : Scripted) (held held' : Held) → RoundCalls held (told_history ports) (told_history ports')
     → Keeps (told_history ports) held (told_history ports') held' → its_plan ports' ≡ its_plan ports → ports'.starved ≡ false → IsPlayed ports'.plan ports'.calls
-    → IsOnScript script ports held
-    → IsOnScript script ports' held' × ((playing ports.plan ports.calls).left ≢ [] → length (playing ports'.plan ports'.calls).left < length (playing ports.plan ports.calls).left)
-round_goes_on script ports ports' held held' calls keeps plan h plays on =
+    → IsOnScript script ports held → (playing ports.plan ports.calls).left ≢ []
+    → IsOnScript script ports' held' × (length (playing ports'.plan ports'.calls).left < length (playing ports.plan ports.calls).left)
+round_goes_on script ports ports' held held' calls keeps plan h plays on some =
     let plan' : ports'.plan ≡ plan_of script = same_Some ports'.plan ports.plan plan ∙ on.plan in
     let told_calls : RoundCalls held (Some ports.calls) (Some ports'.calls) =
     subst (RoundCalls held (Some ports.calls)) (told ports' h) (subst (λ (o : Option (List PortCall)). RoundCalls held o (told_history ports')) (told ports on.told) calls) in
-    let next = round_on script held ports.calls ports'.calls told_calls on.serves (subst (λ (p : Plan). IsPlayed p ports'.calls) plan' plays) on.numbers on.leads in (
-      record { told = h; plan = plan'; serves = serves-next ports ports' held held' on.told h keeps on.serves; leads = next.0; numbers = on.numbers },
-      subst (λ (p : Plan). (playing ports.plan ports.calls).left ≢ [] → length (playing p ports'.calls).left < length (playing ports.plan ports.calls).left) (sym plan')
-          (subst (λ (p : Plan). (playing p ports.calls).left ≢ [] → length (left_in script ports'.calls) < length (playing p ports.calls).left) (sym on.plan) next.1),
+    let some' : left_in script ports.calls ≢ [] = subst (λ (p : Plan). (playing p ports.calls).left ≢ []) on.plan some in
+    let next = round_on script held ports.calls ports'.calls told_calls on.serves (subst (λ (p : Plan). IsPlayed p ports'.calls) plan' plays) on.numbers on.leads some' in (
+      record {
+        told = h;
+        plan = plan';
+        serves = serves-next ports ports' held held' on.told h keeps on.serves;
+        leads = next.on;
+        sends = sends-next script ports.calls ports'.calls on.sends.turns next some' on.sends.enough on.sends.leads;
+        numbers = on.numbers;
+      },
+      subst (λ (p : Plan). length (playing p ports'.calls).left < length (playing ports.plan ports.calls).left) (sym plan')
+          (subst (λ (p : Plan). length (left_in script ports'.calls) < length (playing p ports.calls).left) (sym on.plan) next.less),
     )
 
-ends-at : (closed : ℕ → Bool) (m goal : Machine) (left : List Event) → left ≡ [] → Leads left closed m goal → m ≡ goal
-ends-at closed m goal left e l = (subst (λ (es : List Event). Leads es closed m goal) e l).whole
+ends-at : (closed may lost : ℕ → Bool) (m goal : Machine) (left : List Event) → left ≡ [] → Leads left closed may lost m goal → m ≡ goal
+ends-at closed may lost m goal left e l = (subst (λ (es : List Event). Leads es closed may lost m goal) e l).whole
 
--- Once nothing is left and all is flushed, the sessions were sent what the script has the machine answer.
+-- what a script has sent, by what rounds reach and what the machine answers
+sent-is : (script : List Event) (got : List ℕ) (number : ℕ) → got ≡ reached_by (length script) script [] (λ who. []) number
+    → (has_loss number script ≡ false → got ≡ (script_machine script).out number) → got ≡ script_sent script number
+unfolding script_sent
+sent-is script got number reach whole = by_loss (has_loss number script) refl
+  where
+    by_loss : (lost : Bool) → has_loss number script ≡ lost → got ≡ cond (has_loss number script) (reached_by (length script) script [] (λ who. []) number) ((script_machine script).out number)
+    by_loss true h = rw h reach
+    by_loss false h = rw h (whole h)
+
+-- Once nothing is left and all is flushed, the sessions were sent what the script has.
 pub script_ends : (script : List Event) (ports ports' : Scripted) (held held' : Held) → FlushCalls held (told_history ports) (told_history ports')
     → Keeps (told_history ports) held (told_history ports') held' → its_plan ports' ≡ its_plan ports → ports'.starved ≡ false → IsPlayed ports'.plan ports'.calls
     → IsOnScript script ports held → (playing ports.plan ports.calls).left ≡ []
-    → ((number : ℕ) → sent ports'.calls number ≡ (script_machine script).out number) × (held'.last ≡ (script_machine script).last)
+    → ((number : ℕ) → sent ports'.calls number ≡ script_sent script number) × (held'.last ≡ (script_machine script).last)
 script_ends script ports ports' held held' calls keeps plan h plays on done =
     let plan' : ports'.plan ≡ plan_of script = same_Some ports'.plan ports.plan plan ∙ on.plan in
     let told_calls : FlushCalls held (Some ports.calls) (Some ports'.calls) =
@@ -358,5 +502,13 @@ script_ends script ports ports' held held' calls keeps plan h plays on done =
     let flushed = flush_on script held held' ports.calls ports'.calls told_calls on.serves serves' (subst (λ (p : Plan). IsPlayed p ports'.calls) plan' plays) on.leads in
     let none : left_in script ports.calls ≡ [] = subst (λ (p : Plan). (playing p ports.calls).left ≡ []) on.plan done in
     let none' : left_in script ports'.calls ≡ [] = empty (left_in script ports'.calls) (omega (arith, flushed.shorter, ap (λ (l : List Event). length l) none)) in
-    let whole : after first_world ports'.calls ≡ script_machine script = ends-at (is_closed ports'.calls) (after first_world ports'.calls) (script_machine script) (left_in script ports'.calls) none' flushed.on in
-    ((λ number. flushed.all number ∙ ap (λ (m : Machine). m.out number) whole), serves'.latest ∙ ap (λ (m : Machine). m.last) whole)
+    let whole : after first_world ports'.calls ≡ script_machine script =
+    ends-at (is_closed ports'.calls) (λ n. has_loss n script) (λ n. is_lost n (events ports'.calls)) (after first_world ports'.calls) (script_machine script) (left_in script ports'.calls) none' flushed.on in
+    let reach : sent ports'.calls ≡ reached_by (length script) script [] (λ who. []) =
+    sym (reached-sent script ports.calls ports'.calls flushed) ∙ ap (λ (f : List PortCall). reached f (sent ports.calls)) flushed.is
+    ∙ sym (last-turn script on.sends.turns ports.calls (sent ports.calls) none) ∙ on.sends.leads in (
+      (λ number. sent-is script (sent ports'.calls number) number (ap (λ (f : ℕ → List ℕ). f number) reach)
+          (λ kept. flushed.all number (closed-bool (is_lost number (events ports'.calls)) (λ lost. true≢false (sym (flushed.on.losses.were number lost) ∙ kept)))
+          ∙ ap (λ (m : Machine). m.out number) whole)),
+      serves'.latest ∙ ap (λ (m : Machine). m.last) whole,
+    )

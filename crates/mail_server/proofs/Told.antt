@@ -5,7 +5,7 @@ use Rattle.std.proofs.lemmas.Bool.Decides.{leb_tells, nat_tests}
 use Rattle.port_model.specs.declared.calls.Kind.{Kind}
 use Rattle.port_model.specs.declared.calls.ListenFault.{ListenFault}
 use Rattle.port_model.specs.declared.calls.PortSend.{PortSend}
-use Rattle.port_model.specs.declared.calls.PortSend.TheVariants.{Took}
+use Rattle.port_model.specs.declared.calls.PortSend.TheVariants.{Took, Lost as SendLost}
 use Rattle.port_model.specs.declared.calls.ReadAnswer.{ReadAnswer}
 use Rattle.port_model.specs.declared.calls.ReadAnswer.TheVariants.{Gave, Quiet, Ended as HasEnded, Lost as WasLost}
 use Rattle.port_model.specs.declared.calls.PortCall.{PortCall}
@@ -14,17 +14,18 @@ use Rattle.port_model.specs.declared.events.Event.{Event}
 use Rattle.port_model.specs.declared.events.Event.TheVariants.{Opens, Piece, Ends, Loses}
 use Rattle.port_model.specs.Chain.{Chain}
 use Rattle.port_model.specs.Streams.{moment}
-use Rattle.port_model.specs.History.{Opened, Piece as CamePiece, events, sent, is_closed}
-use Rattle.port_model.specs.Playing.{Playing, IsPlayed, playing, is_of, after_read, after_send, after_accept, rest_of, answer_to_read, answer_to_send, answer_to_accept, loses}
+use Rattle.port_model.specs.History.{PortEvent, Opened, Piece as CamePiece, Lost as WentLost, events, sent, is_closed}
+use Rattle.port_model.specs.Playing.{Playing, IsPlayed, playing, is_of, given, moment_of, after_read, after_send, after_accept, rest_of, answer_to_read, answer_to_send, answer_to_accept, loses}
 use Rattle.mail_model.specs.declared.standing.Standing.{Standing}
-use Rattle.mail_model.specs.declared.standing.Standing.TheVariants.{Open, Closing, Lost as IsLost}
+use Rattle.mail_model.specs.declared.standing.Standing.TheVariants.{Open, Closing}
 use Rattle.mail_model.specs.Machine.{Machine, Session, machine, after, take_event, is_open}
 use Rattle.mail_server.specs.declared.link.Link.{Link}
 use Rattle.mail_server.specs.Calls.{Grows, Offers, OffersQueue, Closes, ClosesEmpty, Asks, AsksIdle, ReadsOnce, clocked, AcceptsBelow, read_room}
-use Rattle.mail_server.specs.Script.{first_world, script_machine}
-use Rattle.mail_server.specs.Serves.{OpenAreKept}
-use Rattle.mail_server.specs.OnScript.{plan_of, AreNext, Leads, IsOn}
-use Rattle.mail_server.proofs.Scripts.{NoneOpen, leads-opens, leads-piece, leads-close, numbers-last}
+use Rattle.mail_server.specs.Script.{first_world, script_machine, port_event}
+use Rattle.mail_server.specs.Serves.{OpenAreKept, is_lost}
+use Rattle.mail_server.specs.Rounds.{plan_of, left_in, has_loss}
+use Rattle.mail_server.specs.OnScript.{AreNext, Leads, IsOn}
+use Rattle.mail_server.proofs.Scripts.{NoneOpen, leads-next, leads-close, leaves-out, numbers-last}
 
 -- A step between histories that are told, the later of which has a property.
 pub record Told {X : Type 0} (Step : X → Option (List PortCall) → Option (List PortCall) → Type 0) (P : List PortCall → Type 0) (x : X) (before later : List PortCall) : Type 0 where
@@ -61,9 +62,6 @@ pub record PlaysKept (script : List Event) (calls : List PortCall) : Type 0 wher
   pub open_kept : OpenAreKept calls (after first_world calls).sessions
   pub later_open : (number : ℕ) → (after first_world calls).last < number → is_closed calls number ≡ false
 
-abbrev pub left_in : List Event → List PortCall → List Event
-left_in script calls = (playing (plan_of script) calls).left
-
 -- Offers
 
 offers_queue_back : (script : List Event) (number : ℕ) (queue : List ℕ) (old : Option (List PortCall)) (later : List PortCall) → Plays script later
@@ -90,64 +88,131 @@ sends-none script (Now reading ∷ older) = sends-none script older
 sends-none script (Send number bytes answer ∷ older) = ap (λ (s : List ℕ). drop 1 s) (sends-none script older)
 sends-none script (Close number ∷ older) = sends-none script older
 
-loses-none : (closed : ℕ → Bool) (last number : ℕ) (left : List Event) → AreNext closed last left → loses left number ≡ false
-loses-none closed last number [] next = refl
-loses-none closed last number (Opens kind ∷ later) next = refl
-loses-none closed last number (Piece who bytes at ∷ later) next = refl
-loses-none closed last number (Ends who ∷ later) next = refl
-loses-none closed last number (Loses who ∷ later) next = absurd next.0
+-- A history by calls that leave the script as it was,
+on_same : (script : List Event) (before later : List PortCall) → left_in script later ≡ left_in script before → events later ≡ events before → is_closed later ≡ is_closed before
+    → IsOn script before → IsOn script later
+on_same script before later left are closed on =
+    subst (λ (c : ℕ → Bool). Leads (left_in script later) c (λ n. has_loss n script) (λ n. is_lost n (events later)) (machine first_world (events later)) (script_machine script)) (sym closed)
+    (subst (λ (es : List PortEvent). Leads (left_in script later) (is_closed before) (λ n. has_loss n script) (λ n. is_lost n es) (machine first_world es) (script_machine script)) (sym are)
+    (subst (λ (l : List Event). Leads l (is_closed before) (λ n. has_loss n script) (λ n. is_lost n (events before)) (after first_world before) (script_machine script)) (sym left) on))
 
-send-left : (closed : ℕ → Bool) (last number : ℕ) (left : List Event) → AreNext closed last left → after_send left number ≡ left
-send-left closed last number [] next = refl
-send-left closed last number (Opens kind ∷ later) next = refl
-send-left closed last number (Piece who bytes at ∷ later) next = refl
-send-left closed last number (Ends who ∷ later) next = refl
-send-left closed last number (Loses who ∷ later) next = absurd next.0
+on_event : (script : List Event) (before : List PortCall) (event : Event) (rest : List Event) → IsOn script before → left_in script before ≡ event ∷ rest
+    → (let es = port_event ((after first_world before).last + 1) event ∷ events before in
+    Leads rest (is_closed before) (λ n. has_loss n script) (λ n. is_lost n es) (machine first_world es) (script_machine script))
+unfolding machine
+on_event script before event rest on e =
+    leads-next event rest (is_closed before) (λ n. has_loss n script) (λ n. is_lost n (events before)) (after first_world before) (script_machine script)
+    (subst (λ (l : List Event). Leads l (is_closed before) (λ n. has_loss n script) (λ n. is_lost n (events before)) (after first_world before) (script_machine script)) e on)
 
--- What an offer leaves: nothing of the script and of the machine changes, and all was sent.
+-- and by calls that take its next event.
+on_next : (script : List Event) (before later : List PortCall) (event : Event) (rest : List Event) → left_in script before ≡ event ∷ rest → left_in script later ≡ rest
+    → events later ≡ port_event ((after first_world before).last + 1) event ∷ events before → is_closed later ≡ is_closed before
+    → IsOn script before → IsOn script later
+on_next script before later event rest e left are closed on =
+    subst (λ (c : ℕ → Bool). Leads (left_in script later) c (λ n. has_loss n script) (λ n. is_lost n (events later)) (machine first_world (events later)) (script_machine script)) (sym closed)
+    (subst (λ (es : List PortEvent). Leads (left_in script later) (is_closed before) (λ n. has_loss n script) (λ n. is_lost n es) (machine first_world es) (script_machine script)) (sym are)
+    (subst (λ (l : List Event). let es = port_event ((after first_world before).last + 1) event ∷ events before in
+    Leads l (is_closed before) (λ n. has_loss n script) (λ n. is_lost n es) (machine first_world es) (script_machine script)) (sym left) (on_event script before event rest on e)))
+
+send-left : (number : ℕ) (left : List Event) → loses left number ≡ false → after_send left number ≡ left
+send-left number [] h = refl
+send-left number (Opens kind ∷ later) h = refl
+send-left number (Piece who bytes at ∷ later) h = refl
+send-left number (Ends who ∷ later) h = refl
+send-left number (Loses who ∷ later) h = rw h refl
+
+send-loses : (number : ℕ) (left : List Event) → loses left number ≡ true → (rest : List Event) × (left ≡ Loses number ∷ rest) × (after_send left number ≡ rest)
+send-loses number [] h = absurd (cc)
+send-loses number (Opens kind ∷ later) h = absurd (cc)
+send-loses number (Piece who bytes at ∷ later) h = absurd (cc)
+send-loses number (Ends who ∷ later) h = absurd (cc)
+send-loses number (Loses who ∷ later) h =
+    let e : who ≡ number = grind (arith, nat_tests, h) in
+    (later, ap (λ (n : ℕ). Loses n ∷ later) e, rw h refl)
+
+-- What an offer of a queue leaves: all of it was sent, or the link is lost and nothing was.
 pub record OffersAll (script : List Event) (number : ℕ) (queue : List ℕ) (before later : List PortCall) : Type 0 where
   pub on : IsOn script later
-  pub left : left_in script later ≡ left_in script before
-  pub same : events later ≡ events before
-  pub all : (who : ℕ) → sent later who ≡ cond (number == who) (sent before who ++ queue) (sent before who)
+  pub shorter : length (left_in script later) ≤ length (left_in script before)
+  pub out_same : (who : ℕ) → (after first_world later).out who ≡ (after first_world before).out who
+  pub others : (who : ℕ) → (number == who) ≡ false → (sent later who ≡ sent before who) × (is_lost who (events later) ≡ is_lost who (events before))
+  pub own : sent later number ≡ sent before number ++ cond (is_lost number (events later)) [] queue
+  pub still : is_lost number (events later) ≡ false → is_lost number (events before) ≡ false
 
-nothing-more : (same : Bool) (out : List ℕ) → out ≡ cond same (out ++ []) out
-nothing-more true out = sym (append-nil out)
-nothing-more false out = refl
+none-either : (lost : Bool) (bytes : List ℕ) → bytes ≡ bytes ++ cond lost [] []
+none-either true bytes = sym (append-nil bytes)
+none-either false bytes = sym (append-nil bytes)
 
 offers_none : (script : List Event) (number : ℕ) (before : List PortCall) → IsOn script before → OffersAll script number [] before before
-offers_none script number before on = record { on = on; left = refl; same = refl; all = λ who. nothing-more (number == who) (sent before who) }
+offers_none script number before on =
+    record { on = on; shorter = omega arith; out_same = λ who. refl; others = λ who other. (refl, refl); own = none-either (is_lost number (events before)) (sent before number); still = λ h. h }
 
-offers_queue : (script : List Event) (number : ℕ) (queue : List ℕ) (before : List PortCall) → IsOn script before
-    → OffersAll script number queue before (Send number queue (Took (length queue)) ∷ before)
-offers_queue script number queue before on =
-    let left : after_send (left_in script before) number ≡ left_in script before = send-left _ _ number (left_in script before) on.next in
+pub itself : (number : ℕ) → (number == number) ≡ true
+itself number = grind (arith, nat_tests)
+
+offers_took : (script : List Event) (number : ℕ) (queue : List ℕ) (before : List PortCall) → loses (left_in script before) number ≡ false → is_lost number (events before) ≡ false
+    → IsOn script before → OffersAll script number queue before (Send number queue (Took (length queue)) ∷ before)
+offers_took script number queue before none linked on =
+    let left : after_send (left_in script before) number ≡ left_in script before = send-left number (left_in script before) none in
     record {
-      on = record { whole = rw left on.whole; next = rw left on.next; numbered = on.numbered };
-      left = left;
-      same = refl;
-      all = λ who. ap (λ (bytes : List ℕ). cond (number == who) (sent before who ++ bytes) (sent before who)) (take_all (length queue) queue (omega arith));
+      on = on_same script before (Send number queue (Took (length queue)) ∷ before) left refl refl on;
+      shorter = omega (arith, ap (λ (l : List Event). length l) left);
+      out_same = λ who. refl;
+      others = λ who other. (rw other refl, refl);
+      own = rw (itself number, linked) (ap (λ (bytes : List ℕ). sent before number ++ bytes) (take_all (length queue) queue (omega arith)));
+      still = λ h. h;
     }
 
-took : (script : List Event) (number : ℕ) (queue : List ℕ) (before : List PortCall) (answer : PortSend) → IsOn script before
-    → answer ≡ answer_to_send (playing (plan_of script) before) number (length queue) → answer ≡ Took (length queue)
-took script number queue before answer on e =
-    let none : loses (left_in script before) number ≡ false = loses-none _ _ number (left_in script before) on.next in
-    let all : (playing (plan_of script) before).sends ≡ [] = sends-none script before in
-    e ∙ (rw (none, all) refl)
+after-lost : (calls : List PortCall) (number : ℕ) (bytes : List ℕ) → after first_world (Send number bytes SendLost ∷ calls) ≡ take_event (after first_world calls) (WentLost number)
+unfolding machine
+after-lost calls number bytes = refl
+
+offers_lost : (script : List Event) (number : ℕ) (queue : List ℕ) (before : List PortCall) → loses (left_in script before) number ≡ true
+    → IsOn script before → OffersAll script number queue before (Send number queue SendLost ∷ before)
+offers_lost script number queue before next on =
+    let parts = send-loses number (left_in script before) next in
+    record {
+      on = on_next script before (Send number queue SendLost ∷ before) (Loses number) parts.0 parts.1 parts.2 refl refl on;
+      shorter = omega (arith, ap (λ (l : List Event). length l) parts.1, ap (λ (l : List Event). length l) parts.2);
+      out_same = λ who. ap (λ (m : Machine). m.out who) (after-lost before number queue) ∙ leaves-out (after first_world before) number who;
+      others = λ who other. (rw other refl, rw other refl);
+      own = rw (itself number) refl;
+      still = λ h. let bad : true ≡ false = rw (itself number) at h in absurd (cc);
+    }
+
+not-true : (b : Bool) → (b ≡ true → ⊥) → b ≡ false
+not-true true h = absurd (h refl)
+not-true false h = refl
+
+answer-lost : (script : List Event) (number offered : ℕ) (before : List PortCall) → loses (left_in script before) number ≡ true
+    → answer_to_send (playing (plan_of script) before) number offered ≡ SendLost
+answer-lost script number offered before next = rw next refl
+
+answer-took : (script : List Event) (number offered : ℕ) (before : List PortCall) → loses (left_in script before) number ≡ false
+    → answer_to_send (playing (plan_of script) before) number offered ≡ Took offered
+answer-took script number offered before none = rw (none, sends-none script before) refl
 
 told_queue : (script : List Event) (number : ℕ) (queue : List ℕ) (before later : List PortCall) → OffersQueue number queue (Some before) (Some later)
-    → Plays script later → IsOn script before → OffersAll script number queue before later
-told_queue script number [] before later h p on = subst (OffersAll script number [] before) (sym (same_Some later before h)) (offers_none script number before on)
-told_queue script number (byte ∷ queue) before later h p on =
-    let played = subst (Plays script) h.1 p in
-    let e : later ≡ Send number (byte ∷ queue) (Took (length (byte ∷ queue))) ∷ before =
-    h.1 ∙ ap (λ (a : PortSend). Send number (byte ∷ queue) a ∷ before) (took script number (byte ∷ queue) before h.0 on played.0) in
-    subst (OffersAll script number (byte ∷ queue) before) (sym e) (offers_queue script number (byte ∷ queue) before on)
+    → Plays script later → IsOn script before → (is_lost number (events before) ≡ true → queue ≡ []) → OffersAll script number queue before later
+told_queue script number [] before later h p on none = subst (OffersAll script number [] before) (sym (same_Some later before h)) (offers_none script number before on)
+told_queue script number (byte ∷ queue) before later h p on none =
+    subst (OffersAll script number (byte ∷ queue) before) (sym h.1) (send-case (loses (left_in script before) number) refl)
+  where
+    played : Plays script (Send number (byte ∷ queue) h.0 ∷ before)
+    played = subst (Plays script) h.1 p
+
+    send-case : (lost : Bool) → loses (left_in script before) number ≡ lost → OffersAll script number (byte ∷ queue) before (Send number (byte ∷ queue) h.0 ∷ before)
+    send-case true next =
+        subst (λ (a : PortSend). OffersAll script number (byte ∷ queue) before (Send number (byte ∷ queue) a ∷ before))
+        (sym (played.0 ∙ answer-lost script number (length (byte ∷ queue)) before next)) (offers_lost script number (byte ∷ queue) before next on)
+    send-case false next =
+        let linked : is_lost number (events before) ≡ false = not-true (is_lost number (events before)) (λ lost. absurd (cc (none lost))) in
+        subst (λ (a : PortSend). OffersAll script number (byte ∷ queue) before (Send number (byte ∷ queue) a ∷ before))
+        (sym (played.0 ∙ answer-took script number (length (byte ∷ queue)) before next)) (offers_took script number (byte ∷ queue) before next linked on)
 
 pub told_offer : (script : List Event) (link : Link) (before later : List PortCall) → Told Offers (Plays script) link before later → IsOn script before
-    → OffersAll script link.number link.queue.items before later
-told_offer script link before later t on = told_queue script link.number link.queue.items before later t.step t.holds on
+    → (is_lost link.number (events before) ≡ true → link.queue.items ≡ []) → OffersAll script link.number link.queue.items before later
+told_offer script link before later t on none = told_queue script link.number link.queue.items before later t.step t.holds on none
 
 -- Closes
 
@@ -198,13 +263,13 @@ at-most script number calls p =
     elim (leb_tells number (after first_world calls).last) [
       | inl low ↦ low.1
       | inr high ↦ let open_still : (number == number) ≡ false = (or-parts (number == number) (is_closed calls number) (p.later_open number high.1)).0 in
-          let itself : (number == number) ≡ true = grind (arith, nat_tests) in absurd (cc)
+          let same : (number == number) ≡ true = itself number in absurd (cc)
     ]
 
 closes_one : (script : List Event) (number : ℕ) (before : List PortCall) → PlaysKept script (Close number ∷ before) → IsOn script before → ClosesOn script before (Close number ∷ before)
 closes_one script number before p on =
     record {
-      on = leads-close number (left_in script before) (is_closed before) (after first_world before) (script_machine script)
+      on = leads-close number (left_in script before) (is_closed before) (λ n. has_loss n script) (λ n. is_lost n (events before)) (after first_world before) (script_machine script)
           (none_open-closed number before (after first_world before).sessions p.open_kept) (at-most script number before p) on;
       shorter = filter-shorter _ (left_in script before);
       same = refl;
@@ -223,8 +288,6 @@ closes-maybe : (standing : Standing) (number : ℕ) (queue : List ℕ) (old new 
 closes-maybe Open number queue old new h = inl h
 closes-maybe Closing number (byte ∷ queue) old new h = inl h
 closes-maybe Closing number [] old new h = inr h
-closes-maybe IsLost number (byte ∷ queue) old new h = inl h
-closes-maybe IsLost number [] old new h = inr h
 
 pub closes_back : (script : List Event) → GoesBack Closes (PlaysKept script)
 closes_back script link old later p h =
@@ -248,15 +311,11 @@ closes-empty : (standing : Standing) (number : ℕ) (queue : List ℕ) (before l
 closes-empty Open number queue before later shut none h = absurd (cc)
 closes-empty Closing number [] before later shut none h = h
 closes-empty Closing number (byte ∷ queue) before later shut none h = absurd (cc)
-closes-empty IsLost number [] before later shut none h = h
-closes-empty IsLost number (byte ∷ queue) before later shut none h = absurd (cc)
 
 pub told_closed : (script : List Event) (link : Link) (before later : List PortCall) → Told Closes (PlaysKept script) link before later
     → is_open link.standing ≡ false → link.queue.items ≡ [] → is_closed later link.number ≡ true
 told_closed script link before later t shut none =
-    let e = closes-empty link.standing link.number link.queue.items before later shut none t.step in
-    let itself : (link.number == link.number) ≡ true = grind (arith, nat_tests) in
-    rw e (rw itself refl)
+    rw (closes-empty link.standing link.number link.queue.items before later shut none t.step) (rw (itself link.number) refl)
 
 -- Reads
 
@@ -287,7 +346,6 @@ reads-maybe : (standing : Standing) (number : ℕ) (queue : List ℕ) (old new :
 reads-maybe Open number [] old new h = inr h
 reads-maybe Open number (byte ∷ queue) old new h = inl h
 reads-maybe Closing number queue old new h = inl h
-reads-maybe IsLost number queue old new h = inl h
 
 pub asks_back : (script : List Event) → GoesBack Asks (Plays script)
 asks_back script link old later p h =
@@ -297,99 +355,82 @@ asks_back script link old later p h =
           (g.0, g.1, (read_played script link.number g.2.0 g.2.1 g.0 (subst (Plays script) g.2.2 p)).1)
     ]
 
--- a read that finds nothing
-read_quiet : (script : List Event) (number : ℕ) (before : List PortCall) → after_read (playing (plan_of script) before) number read_room (left_in script before) ≡ playing (plan_of script) before
-    → IsOn script before → TakesNext script false before (Read number read_room Quiet ∷ before)
-read_quiet script number before e on =
-    let left : left_in script (Read number read_room Quiet ∷ before) ≡ left_in script before = ap (λ (p : Playing). p.left) e in
-    record {
-      on = record { whole = rw left on.whole; next = rw left on.next; numbered = on.numbered };
-      shorter = omega (arith, ap (λ (l : List Event). length l) left);
-      same = λ h. left;
-      takes = λ h. absurd (cc);
-    }
+-- What calls leave that take the next event of a script, or none.
+
+takes_event : (script : List Event) (before later : List PortCall) (event : Event) (rest : List Event) → left_in script before ≡ event ∷ rest → left_in script later ≡ rest
+    → events later ≡ port_event ((after first_world before).last + 1) event ∷ events before → is_closed later ≡ is_closed before
+    → IsOn script before → TakesNext script true before later
+takes_event script before later event rest e left are closed on = record {
+  on = on_next script before later event rest e left are closed on;
+  shorter = omega (arith, ap (λ (l : List Event). length l) left, ap (λ (l : List Event). length l) e);
+  same = λ h. absurd (true≢false h);
+  takes = λ h. omega (arith, ap (λ (l : List Event). length l) left, ap (λ (l : List Event). length l) e);
+}
+
+takes_nothing : (script : List Event) (before later : List PortCall) → left_in script later ≡ left_in script before → events later ≡ events before → is_closed later ≡ is_closed before
+    → IsOn script before → TakesNext script false before later
+takes_nothing script before later left are closed on = record {
+  on = on_same script before later left are closed on;
+  shorter = omega (arith, ap (λ (l : List Event). length l) left);
+  same = λ h. left;
+  takes = λ h. absurd (true≢false (sym h));
+}
 
 fits-whole : (room : ℕ) (who : ℕ) (bytes : List ℕ) (at : ℕ) → length bytes ≤ room → rest_of (Piece who bytes at) room ≡ []
 fits-whole room who bytes at h = let no : nat_lt room (length bytes) ≡ false = grind (arith, nat_tests) in rw no refl
 
-after-piece : (calls : List PortCall) (number room : ℕ) (bytes : List ℕ) (reading : ℕ)
-    → after first_world (Now reading ∷ Read number room (Gave bytes) ∷ calls) ≡ take_event (after first_world calls) (CamePiece number bytes (moment reading))
-unfolding machine
-after-piece calls number room bytes reading = refl
+-- a read of the link that the next event is of, where the buffer has room for all of it
+read-left : (p : Playing) (number room : ℕ) (event : Event) (later left : List Event) → is_of number event ≡ true → rest_of event room ≡ [] → left ≡ event ∷ later
+    → ((after_read p number room left).left ≡ later) × (answer_to_read left number room ≡ given event room) × ((after_read p number room left).moment ≡ moment_of event p.moment)
+read-left p number room event later left its whole e =
+    subst (λ (l : List Event). ((after_read p number room l).left ≡ later) × (answer_to_read l number room ≡ given event room) × ((after_read p number room l).moment ≡ moment_of event p.moment)) (sym e)
+    (rw (its, whole) (refl, refl, refl))
 
-after-open : (calls : List PortCall) (number : ℕ) (kind : Kind)
-    → after first_world (Accept number (Ok (Some kind)) ∷ calls) ≡ take_event (after first_world calls) (Opened number kind)
-unfolding machine
-after-open calls number kind = refl
+-- a read of a link that the next event isn't of
+read-none : (p : Playing) (number room : ℕ) (left : List Event) → begins number left ≡ false → (after_read p number room left ≡ p) × (answer_to_read left number room ≡ Quiet)
+read-none p number room [] h = (refl, refl)
+read-none p number room (event ∷ later) h = rw h (refl, refl)
 
-read-left : (p : Playing) (number room : ℕ) (bytes : List ℕ) (at : ℕ) (later left : List Event) → length bytes ≤ room → left ≡ Piece number bytes at ∷ later
-    → (after_read p number room left).left ≡ later
-read-left p number room bytes at later left fits e =
-    let itself : (number == number) ≡ true = grind (arith, nat_tests) in
-    subst (λ (l : List Event). (after_read p number room l).left ≡ later) (sym e) (rw (itself, fits-whole room number bytes at fits) refl)
-
--- a read that gives the next piece
-read_piece : (script : List Event) (number : ℕ) (bytes : List ℕ) (at : ℕ) (later : List Event) (before : List PortCall) → left_in script before ≡ Piece number bytes at ∷ later
-    → IsOn script before → TakesNext script true before (Now at ∷ Read number read_room (Gave bytes) ∷ before)
-read_piece script number bytes at later before e on =
-    let next : Leads (Piece number bytes at ∷ later) (is_closed before) (after first_world before) (script_machine script) = subst (λ (l : List Event). Leads l (is_closed before) (after first_world before) (script_machine script)) e on in
-    let left : left_in script (Now at ∷ Read number read_room (Gave bytes) ∷ before) ≡ later =
-    read-left (playing (plan_of script) before) number read_room bytes at later (left_in script before) next.next.0.fits e in
-    record {
-      on = subst (λ (m : Machine). Leads (left_in script (Now at ∷ Read number read_room (Gave bytes) ∷ before)) (is_closed before) m (script_machine script)) (sym (after-piece before number read_room bytes at))
-          (subst (λ (l : List Event). Leads l (is_closed before) (take_event (after first_world before) (CamePiece number bytes (moment at))) (script_machine script)) (sym left)
-          (leads-piece number bytes at later (is_closed before) (after first_world before) (script_machine script) next));
-      shorter = omega (arith, ap (λ (l : List Event). length l) left, ap (λ (l : List Event). length l) e);
-      same = λ h. absurd (true≢false h);
-      takes = λ h. omega (arith, ap (λ (l : List Event). length l) left, ap (λ (l : List Event). length l) e);
-    }
-
-read-none : (p : Playing) (number room : ℕ) (left : List Event) → begins number left ≡ false → after_read p number room left ≡ p
-read-none p number room [] h = refl
-read-none p number room (event ∷ later) h = rw h refl
-
-quiet : (number room : ℕ) (left : List Event) → begins number left ≡ false → answer_to_read left number room ≡ Quiet
-quiet number room [] h = refl
-quiet number room (event ∷ later) h = rw h refl
-
--- a read of a link on which nothing happens next
 told_quiet : (script : List Event) (number : ℕ) (answer : ReadAnswer) (reading : ℕ) (before : List PortCall)
     → Plays script (clocked answer reading (Read number read_room answer ∷ before)) → IsOn script before → begins number (left_in script before) ≡ false
     → TakesNext script false before (clocked answer reading (Read number read_room answer ∷ before))
 told_quiet script number answer reading before p on h =
-    let answered : answer ≡ Quiet = (read_played script number answer reading before p).0 ∙ quiet number read_room (left_in script before) h in
+    let nothing = read-none (playing (plan_of script) before) number read_room (left_in script before) h in
+    let answered : answer ≡ Quiet = (read_played script number answer reading before p).0 ∙ nothing.1 in
     subst (λ (a : ReadAnswer). TakesNext script false before (clocked a reading (Read number read_room a ∷ before))) (sym answered)
-    (read_quiet script number before (read-none (playing (plan_of script) before) number read_room (left_in script before) h) on)
-
-given-piece : (number room : ℕ) (bytes : List ℕ) (at : ℕ) (later left : List Event) → length bytes ≤ room → left ≡ Piece number bytes at ∷ later
-    → answer_to_read left number room ≡ Gave bytes
-given-piece number room bytes at later left fits e =
-    let itself : (number == number) ≡ true = grind (arith, nat_tests) in
-    subst (λ (l : List Event). answer_to_read l number room ≡ Gave bytes) (sym e) (rw itself (ap (λ (b : List ℕ). Gave b) (take_all room bytes fits)))
-
-read-moment : (p : Playing) (number room : ℕ) (bytes : List ℕ) (at : ℕ) (later left : List Event) → left ≡ Piece number bytes at ∷ later
-    → (after_read p number room left).moment ≡ at
-read-moment p number room bytes at later left e =
-    let itself : (number == number) ≡ true = grind (arith, nat_tests) in
-    subst (λ (l : List Event). (after_read p number room l).moment ≡ at) (sym e) (rw itself refl)
-
-told_gave : (script : List Event) (number : ℕ) (bytes : List ℕ) (at reading : ℕ) (later : List Event) (before : List PortCall)
-    → Plays script (Now reading ∷ Read number read_room (Gave bytes) ∷ before) → IsOn script before → left_in script before ≡ Piece number bytes at ∷ later
-    → TakesNext script true before (Now reading ∷ Read number read_room (Gave bytes) ∷ before)
-told_gave script number bytes at reading later before p on e =
-    let its : reading ≡ at = p.0 ∙ read-moment (playing (plan_of script) before) number read_room bytes at later (left_in script before) e in
-    subst (λ (r : ℕ). TakesNext script true before (Now r ∷ Read number read_room (Gave bytes) ∷ before)) (sym its) (read_piece script number bytes at later before e on)
+    (takes_nothing script before (Read number read_room Quiet ∷ before) (ap (λ (q : Playing). q.left) nothing.0) refl refl on)
 
 told_piece : (script : List Event) (number : ℕ) (answer : ReadAnswer) (reading : ℕ) (bytes : List ℕ) (at : ℕ) (later : List Event) (before : List PortCall)
     → Plays script (clocked answer reading (Read number read_room answer ∷ before)) → IsOn script before → left_in script before ≡ Piece number bytes at ∷ later
     → TakesNext script true before (clocked answer reading (Read number read_room answer ∷ before))
 told_piece script number answer reading bytes at later before p on e =
     let next : AreNext (is_closed before) (after first_world before).last (Piece number bytes at ∷ later) = subst (AreNext (is_closed before) (after first_world before).last) e on.next in
-    let answered : answer ≡ Gave bytes = (read_played script number answer reading before p).0 ∙ given-piece number read_room bytes at later (left_in script before) next.0.fits e in
+    let read = read-left (playing (plan_of script) before) number read_room (Piece number bytes at) later (left_in script before) (itself number) (fits-whole read_room number bytes at next.0.1) e in
+    let answered : answer ≡ Gave bytes = (read_played script number answer reading before p).0 ∙ read.1 ∙ ap (λ (b : List ℕ). Gave b) (take_all read_room bytes next.0.1) in
     let played : Plays script (Now reading ∷ Read number read_room (Gave bytes) ∷ before) =
     subst (λ (a : ReadAnswer). Plays script (clocked a reading (Read number read_room a ∷ before))) answered p in
+    let its : reading ≡ at = played.0 ∙ read.2 in
     subst (λ (a : ReadAnswer). TakesNext script true before (clocked a reading (Read number read_room a ∷ before))) (sym answered)
-    (told_gave script number bytes at reading later before played on e)
+    (takes_event script before (Now reading ∷ Read number read_room (Gave bytes) ∷ before) (Piece number bytes at) later e read.0
+    (ap (λ (r : ℕ). CamePiece number bytes (moment r) ∷ events before) its) refl on)
+
+told_end : (script : List Event) (number : ℕ) (answer : ReadAnswer) (reading : ℕ) (later : List Event) (before : List PortCall)
+    → Plays script (clocked answer reading (Read number read_room answer ∷ before)) → IsOn script before → left_in script before ≡ Ends number ∷ later
+    → TakesNext script true before (clocked answer reading (Read number read_room answer ∷ before))
+told_end script number answer reading later before p on e =
+    let read = read-left (playing (plan_of script) before) number read_room (Ends number) later (left_in script before) (itself number) refl e in
+    let answered : answer ≡ HasEnded = (read_played script number answer reading before p).0 ∙ read.1 in
+    subst (λ (a : ReadAnswer). TakesNext script true before (clocked a reading (Read number read_room a ∷ before))) (sym answered)
+    (takes_event script before (Read number read_room HasEnded ∷ before) (Ends number) later e read.0 refl refl on)
+
+told_loss : (script : List Event) (number : ℕ) (answer : ReadAnswer) (reading : ℕ) (later : List Event) (before : List PortCall)
+    → Plays script (clocked answer reading (Read number read_room answer ∷ before)) → IsOn script before → left_in script before ≡ Loses number ∷ later
+    → TakesNext script true before (clocked answer reading (Read number read_room answer ∷ before))
+told_loss script number answer reading later before p on e =
+    let read = read-left (playing (plan_of script) before) number read_room (Loses number) later (left_in script before) (itself number) refl e in
+    let answered : answer ≡ WasLost = (read_played script number answer reading before p).0 ∙ read.1 in
+    subst (λ (a : ReadAnswer). TakesNext script true before (clocked a reading (Read number read_room a ∷ before))) (sym answered)
+    (takes_event script before (Read number read_room WasLost ∷ before) (Loses number) later e read.0 refl refl on)
 
 told_next : (script : List Event) (number : ℕ) (answer : ReadAnswer) (reading : ℕ) (before : List PortCall)
     → Plays script (clocked answer reading (Read number read_room answer ∷ before)) → IsOn script before
@@ -400,10 +441,14 @@ told_next script number answer reading before p on left e false h =
 told_next script number answer reading before p on [] e true h = absurd (cc)
 told_next script number answer reading before p on (Opens kind ∷ later) e true h = absurd (cc)
 told_next script number answer reading before p on (Piece who bytes at ∷ later) e true h =
-    let itself : who ≡ number = grind (arith, nat_tests, h) in
-    told_piece script number answer reading bytes at later before p on (e ∙ ap (λ (n : ℕ). Piece n bytes at ∷ later) itself)
-told_next script number answer reading before p on (Ends who ∷ later) e true h = absurd (subst (AreNext (is_closed before) (after first_world before).last) e on.next).0
-told_next script number answer reading before p on (Loses who ∷ later) e true h = absurd (subst (AreNext (is_closed before) (after first_world before).last) e on.next).0
+    let own : who ≡ number = grind (arith, nat_tests, h) in
+    told_piece script number answer reading bytes at later before p on (e ∙ ap (λ (n : ℕ). Piece n bytes at ∷ later) own)
+told_next script number answer reading before p on (Ends who ∷ later) e true h =
+    let own : who ≡ number = grind (arith, nat_tests, h) in
+    told_end script number answer reading later before p on (e ∙ ap (λ (n : ℕ). Ends n ∷ later) own)
+told_next script number answer reading before p on (Loses who ∷ later) e true h =
+    let own : who ≡ number = grind (arith, nat_tests, h) in
+    told_loss script number answer reading later before p on (e ∙ ap (λ (n : ℕ). Loses n ∷ later) own)
 
 -- A link that is asked takes the next event, if it is its own.
 told_read : (script : List Event) (number : ℕ) (before later : List PortCall) → ReadsOnce number before later → Plays script later → IsOn script before
@@ -426,7 +471,6 @@ asks-open : (standing : Standing) (number : ℕ) (queue : List ℕ) (before late
 asks-open Open number [] before later opened none h = h
 asks-open Open number (byte ∷ queue) before later opened none h = absurd (cc)
 asks-open Closing number queue before later opened none h = absurd (cc)
-asks-open IsLost number queue before later opened none h = absurd (cc)
 
 -- A link that is open and has nothing to send takes the next event, if it is its own.
 pub told_idle : (script : List Event) (link : Link) (before later : List PortCall) → Told Asks (Plays script) link before later → IsOn script before
@@ -459,54 +503,40 @@ accept-quiet (Piece number bytes at ∷ later) h = (refl, refl)
 accept-quiet (Ends number ∷ later) h = (refl, refl)
 accept-quiet (Loses number ∷ later) h = (refl, refl)
 
-accepts_none : (script : List Event) (number : ℕ) (before : List PortCall) → IsOn script before → begins_open (left_in script before) ≡ false
-    → TakesNext script false before (Accept number (Ok None) ∷ before)
-accepts_none script number before on h =
-    let left : after_accept (left_in script before) ≡ left_in script before = (accept-quiet (left_in script before) h).1 in
-    record {
-      on = record { whole = rw left on.whole; next = rw left on.next; numbered = on.numbered };
-      shorter = omega (arith, ap (λ (l : List Event). length l) left);
-      same = λ h. left;
-      takes = λ h. absurd (true≢false (sym h));
-    }
+accepts_none : (script : List Event) (number : ℕ) (answer : Result (Option Kind) ListenFault) (before : List PortCall) → Plays script (Accept number answer ∷ before) → IsOn script before
+    → begins_open (left_in script before) ≡ false → TakesNext script false before (Accept number answer ∷ before)
+accepts_none script number answer before p on h =
+    let nothing = accept-quiet (left_in script before) h in
+    let answered : answer ≡ Ok None = p.0 ∙ ap (λ (found : Option Kind). Ok found) nothing.0 in
+    subst (λ (a : Result (Option Kind) ListenFault). TakesNext script false before (Accept number a ∷ before)) (sym answered)
+    (takes_nothing script before (Accept number (Ok None) ∷ before) nothing.1 refl refl on)
 
-accepts_some : (script : List Event) (number : ℕ) (kind : Kind) (later : List Event) (before : List PortCall) → IsOn script before
+accepts_some : (script : List Event) (number : ℕ) (answer : Result (Option Kind) ListenFault) (kind : Kind) (later : List Event) (before : List PortCall)
+    → Plays script (Accept number answer ∷ before) → IsOn script before
     → left_in script before ≡ Opens kind ∷ later → number ≡ (after first_world before).last + 1
-    → TakesNext script true before (Accept number (Ok (Some kind)) ∷ before)
-accepts_some script number kind later before on e its =
-    let next : Leads (Opens kind ∷ later) (is_closed before) (after first_world before) (script_machine script) = subst (λ (l : List Event). Leads l (is_closed before) (after first_world before) (script_machine script)) e on in
-    let left : after_accept (left_in script before) ≡ later = ap (λ (l : List Event). after_accept l) e in
-    record {
-      on = subst (λ (m : Machine). Leads (after_accept (left_in script before)) (is_closed before) m (script_machine script)) (sym (after-open before number kind))
-          (subst (λ (n : ℕ). Leads (after_accept (left_in script before)) (is_closed before) (take_event (after first_world before) (Opened n kind)) (script_machine script)) (sym its)
-          (subst (λ (l : List Event). Leads l (is_closed before) (take_event (after first_world before) (Opened ((after first_world before).last + 1) kind)) (script_machine script)) (sym left)
-          (leads-opens kind later (is_closed before) (after first_world before) (script_machine script) next)));
-      shorter = omega (arith, ap (λ (l : List Event). length l) left, ap (λ (l : List Event). length l) e);
-      same = λ h. absurd (true≢false h);
-      takes = λ h. omega (arith, ap (λ (l : List Event). length l) left, ap (λ (l : List Event). length l) e);
-    }
+    → TakesNext script true before (Accept number answer ∷ before)
+accepts_some script number answer kind later before p on e its =
+    let answered : answer ≡ Ok (Some kind) = p.0 ∙ ap (λ (l : List Event). Ok (answer_to_accept l)) e in
+    subst (λ (a : Result (Option Kind) ListenFault). TakesNext script true before (Accept number a ∷ before)) (sym answered)
+    (takes_event script before (Accept number (Ok (Some kind)) ∷ before) (Opens kind) later e (ap (λ (l : List Event). after_accept l) e)
+    (ap (λ (n : ℕ). Opened n kind ∷ events before) its) refl on)
 
 accept-answered : (script : List Event) (number : ℕ) (answer : Result (Option Kind) ListenFault) (before : List PortCall) → Plays script (Accept number answer ∷ before) → IsOn script before
     → number ≡ (after first_world before).last + 1 → (left : List Event) → left_in script before ≡ left
     → TakesNext script (begins_open left) before (Accept number answer ∷ before)
-accept-answered script number answer before p on its [] e =
-    subst (λ (a : Result (Option Kind) ListenFault). TakesNext script false before (Accept number a ∷ before)) (sym (p.0 ∙ ap (λ (l : List Event). Ok (answer_to_accept l)) e))
-    (accepts_none script number before on (ap begins_open e))
-accept-answered script number answer before p on its (Opens kind ∷ later) e =
-    subst (λ (a : Result (Option Kind) ListenFault). TakesNext script true before (Accept number a ∷ before)) (sym (p.0 ∙ ap (λ (l : List Event). Ok (answer_to_accept l)) e))
-    (accepts_some script number kind later before on e its)
-accept-answered script number answer before p on its (Piece who bytes at ∷ later) e =
-    subst (λ (a : Result (Option Kind) ListenFault). TakesNext script false before (Accept number a ∷ before)) (sym (p.0 ∙ ap (λ (l : List Event). Ok (answer_to_accept l)) e))
-    (accepts_none script number before on (ap begins_open e))
-accept-answered script number answer before p on its (Ends who ∷ later) e = absurd (subst (AreNext (is_closed before) (after first_world before).last) e on.next).0
-accept-answered script number answer before p on its (Loses who ∷ later) e = absurd (subst (AreNext (is_closed before) (after first_world before).last) e on.next).0
+accept-answered script number answer before p on its [] e = accepts_none script number answer before p on (ap begins_open e)
+accept-answered script number answer before p on its (Opens kind ∷ later) e = accepts_some script number answer kind later before p on e its
+accept-answered script number answer before p on its (Piece who bytes at ∷ later) e = accepts_none script number answer before p on (ap begins_open e)
+accept-answered script number answer before p on its (Ends who ∷ later) e = accepts_none script number answer before p on (ap begins_open e)
+accept-answered script number answer before p on its (Loses who ∷ later) e = accepts_none script number answer before p on (ap begins_open e)
 
 accept-full : (script : List Event) (before : List PortCall) → IsOn script before → (script_machine script).last ≤ (after first_world before).last
     → (left : List Event) → left_in script before ≡ left → TakesNext script (begins_open left) before before
 accept-full script before on full [] e = takes_none script before on
 accept-full script before on full (Opens kind ∷ later) e =
-    let room = numbers-last kind later (is_closed before) (after first_world before) (script_machine script)
-    (subst (λ (l : List Event). Leads l (is_closed before) (after first_world before) (script_machine script)) e on) in absurd (omega (arith, room, full))
+    let room = numbers-last kind later (is_closed before) (λ n. has_loss n script) (λ n. is_lost n (events before)) (after first_world before) (script_machine script)
+    (subst (λ (l : List Event). Leads l (is_closed before) (λ n. has_loss n script) (λ n. is_lost n (events before)) (after first_world before) (script_machine script)) e on) in
+    absurd (omega (arith, room, full))
 accept-full script before on full (Piece who bytes at ∷ later) e = takes_none script before on
 accept-full script before on full (Ends who ∷ later) e = takes_none script before on
 accept-full script before on full (Loses who ∷ later) e = takes_none script before on

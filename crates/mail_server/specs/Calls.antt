@@ -9,7 +9,7 @@ use Rattle.port_model.specs.declared.calls.PortCall.{PortCall}
 use Rattle.port_model.specs.declared.calls.PortCall.TheVariants.{Accept, Read, Now, Send, Close}
 use Rattle.port_model.specs.Chain.{Chain}
 use Rattle.mail_model.specs.declared.standing.Standing.{Standing}
-use Rattle.mail_model.specs.declared.standing.Standing.TheVariants.{Open, Closing, Lost as IsLost}
+use Rattle.mail_model.specs.declared.standing.Standing.TheVariants.{Open, Closing}
 use Rattle.mail_server.specs.declared.link.Link.{Link}
 use Rattle.mail_server.specs.Held.{Held}
 
@@ -41,8 +41,6 @@ abbrev pub ClosesEmpty : Standing → ℕ → List ℕ → Option (List PortCall
 ClosesEmpty Open number queue old new = new ≡ old
 ClosesEmpty Closing number (byte ∷ queue) old new = new ≡ old
 ClosesEmpty Closing number [] old new = Grows (ClosesOnce number) old new
-ClosesEmpty IsLost number (byte ∷ queue) old new = new ≡ old
-ClosesEmpty IsLost number [] old new = Grows (ClosesOnce number) old new
 
 abbrev pub Closes : Link → Option (List PortCall) → Option (List PortCall) → Type 0
 Closes link old new = ClosesEmpty link.standing link.number link.queue.items old new
@@ -63,7 +61,6 @@ abbrev pub AsksIdle : Standing → ℕ → List ℕ → Option (List PortCall) �
 AsksIdle Open number [] old new = Grows (ReadsOnce number) old new
 AsksIdle Open number (byte ∷ queue) old new = new ≡ old
 AsksIdle Closing number queue old new = new ≡ old
-AsksIdle IsLost number queue old new = new ≡ old
 
 -- A link that is open and has nothing to send is read once, and no other.
 abbrev pub Asks : Link → Option (List PortCall) → Option (List PortCall) → Type 0

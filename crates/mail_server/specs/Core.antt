@@ -8,6 +8,11 @@ use Rattle.mail_server.specs.declared.shared.Core.{Core}
 unfoldable pub IsWorld : Core → World → Type 0
 IsWorld core world = Unit {0}
 
+-- The answer of what a command did was added to those before, and the command closes the session or doesn't, as it is to.
+pub record IsExecuted (before later : List ℕ) (closes : Bool) (stepped : Stepped) : Type 0 where
+  pub answer : later ≡ before ++ stepped.answer
+  pub closing : closes ≡ stepped.closes
+
 -- The core after a step, with answers that were before and after it: it stands for the step's world, and the answer
 -- of the step was added.
 pub record IsStep (core : Core) (before later : List ℕ) (closes : Bool) (next : Form) (stepped : Stepped) : Type 0 where

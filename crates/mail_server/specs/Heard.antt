@@ -2,7 +2,6 @@
 use Rattle.std.specs.Prelude.{ℕ, ◌≡◌, ◌≢◌, true, List, [], ◌∷◌, ◌++◌, Option, Some, None}
 use Rattle.port_model.specs.declared.calls.PortCall.{PortCall}
 use Rattle.port_model.specs.History.{PortEvent, Opened, Piece, Ended, Lost, events, sent, is_closed}
-use Rattle.mail_model.specs.declared.standing.Standing.TheVariants.{Closing, Lost as IsLost}
 use Rattle.imap_lexer.specs.Lexer.{Awaited}
 use Rattle.mail_model.specs.declared.standing.Standing.{Standing}
 use Rattle.mail_model.specs.Step.{World, Stepped}
@@ -30,8 +29,8 @@ abbrev pub acts : Option PortEvent → World → Session → Taking
 acts None world session = taking_of world session
 acts (Some (Opened who kind)) world session = taking_of world session
 acts (Some (Piece who piece moment)) world session = hears_piece moment piece world session
-acts (Some (Ended who)) world session = leaves Closing world session
-acts (Some (Lost who)) world session = leaves IsLost world session
+acts (Some (Ended who)) world session = leaves world session
+acts (Some (Lost who)) world session = leaves world session
 
 -- A core and a link hold what a session's part in an event leaves.
 pub record IsTaking (core : Core) (link : Link) (taking : Taking) : Type 0 where

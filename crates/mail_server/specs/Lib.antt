@@ -5,5 +5,6 @@ pub mod Calls
 pub mod Serves
 pub mod Heard
 pub mod Script
+pub mod Rounds
 pub mod OnScript
 pub mod Run

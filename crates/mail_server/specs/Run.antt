@@ -5,10 +5,10 @@ use Rattle.port_model.specs.declared.events.Event.{Event}
 use Rattle.port_model.specs.Script.{script_events}
 use Rattle.port_model.specs.Streams.{Appends}
 use Rattle.port_model.specs.Transcript.{session_lines, Extends}
-use Rattle.mail_model.specs.Machine.{Machine}
 use Rattle.mail_server.specs.declared.status.Status.{Status}
 use Rattle.mail_server.specs.declared.status.Status.TheVariants.{Done, Usage, NoMemory, ReadFault, WriteFault, BadScript}
 use Rattle.mail_server.specs.Script.{script_machine}
+use Rattle.mail_server.specs.Rounds.{script_sent}
 
 -- the number that the process ends with
 abbrev pub code_of : Status → ℕ
@@ -35,13 +35,13 @@ AreScriptWords words = words ≡ codes "script" ∷ []
 abbrev pub most_bytes : ℕ
 most_bytes = 67108864
 
--- what the sessions from the first to the last were answered, as lines
+-- what the sessions from the first to the last were sent, as lines
 abbrev pub transcript_of : ℕ → (ℕ → List ℕ) → List ℕ
 transcript_of last out = flat_map (λ number. session_lines number (out number)) (range_with_len 1 last)
 
--- what every session of the machine was answered, one session after another
-abbrev pub transcript : Machine → List ℕ
-transcript machine = transcript_of machine.last machine.out
+-- what every session of a script is sent, one session after another
+abbrev pub transcript : List Event → List ℕ
+transcript script = transcript_of (script_machine script).last (script_sent script)
 
 -- the line that says of a script which line is bad
 abbrev pub bad_line : ℕ → List ℕ
@@ -56,7 +56,7 @@ unfoldable pub reading : List ℕ → Result (List Event) (List ℕ)
 reading text = if nat_lt most_bytes (length text) then Err (codes "bad script: too long\n") else events_or_line (script_events text)
 
 abbrev pub lines_of_reading : Result (List Event) (List ℕ) → List ℕ
-lines_of_reading (Ok events) = transcript (script_machine events)
+lines_of_reading (Ok events) = transcript events
 lines_of_reading (Err line) = line
 
 abbrev pub status_of_reading : Result (List Event) (List ℕ) → Status

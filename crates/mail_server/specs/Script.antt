@@ -1,4 +1,4 @@
--- What a script has the machine do, and what it prints.
+-- What a script has the machine do.
 use Rattle.std.specs.Prelude.{ℕ, ◌+◌, List, [], ◌∷◌}
 use Rattle.port_model.specs.declared.events.Event.{Event}
 use Rattle.port_model.specs.declared.events.Event.TheVariants.{Opens, Piece, Ends, Loses}
@@ -7,13 +7,24 @@ use Rattle.port_model.specs.History.{PortEvent, Opened, Piece as CamePiece, Ende
 use Rattle.mail_model.specs.Step.{World}
 use Rattle.mail_model.specs.Machine.{Machine, machine}
 
+-- an event of a script as its link has it, where this is the number of the next session that opens
+abbrev pub port_event : ℕ → Event → PortEvent
+port_event next (Opens kind) = Opened next kind
+port_event next (Piece number bytes at) = CamePiece number bytes (moment at)
+port_event next (Ends number) = Ended number
+port_event next (Loses number) = Lost number
+
+-- a number of sessions with that which an event opens, if it opens one
+abbrev pub and_opened : ℕ → Event → ℕ
+and_opened count (Opens kind) = count + 1
+and_opened count (Piece number bytes at) = count
+and_opened count (Ends number) = count
+and_opened count (Loses number) = count
+
 -- the events of a script as its links have them, in their order; the sessions that open get the numbers from one on
 abbrev pub port_events : ℕ → List Event → List PortEvent
 port_events next [] = []
-port_events next (Opens kind ∷ later) = Opened next kind ∷ port_events (next + 1) later
-port_events next (Piece number bytes at ∷ later) = CamePiece number bytes (moment at) ∷ port_events next later
-port_events next (Ends number ∷ later) = Ended number ∷ port_events next later
-port_events next (Loses number ∷ later) = Lost number ∷ port_events next later
+port_events next (event ∷ later) = port_event next event ∷ port_events (and_opened next event) later
 
 -- the world of a store without mail
 abbrev pub first_world : World
@@ -24,6 +35,6 @@ abbrev pub newest_first : List PortEvent → List PortEvent → List PortEvent
 newest_first older [] = older
 newest_first older (event ∷ later) = newest_first (event ∷ older) later
 
--- the machine after a script
+-- The machine after a script. What happens to a session that was closed changes nothing.
 abbrev pub script_machine : List Event → Machine
 script_machine events = machine first_world (newest_first [] (port_events 1 events))

@@ -1,11 +1,9 @@
 -- The relation between a server and the machine, and what keeps it.
-use Rattle.std.specs.Prelude.{ℕ, ◌≡◌, ◌<◌, not, Bool, true, false, List, [], ◌∷◌, ◌++◌, Option, Some, None, map, filter, length}
+use Rattle.std.specs.Prelude.{ℕ, ◌≡◌, ◌<◌, ◌==◌, ◌||◌, not, Bool, true, false, List, [], ◌∷◌, ◌++◌, Option, Some, None, map, filter, length}
 use Rattle.port_model.specs.declared.calls.Kind.{Kind}
 use Rattle.port_model.specs.declared.calls.PortCall.{PortCall}
-use Rattle.port_model.specs.History.{sent, is_closed}
+use Rattle.port_model.specs.History.{PortEvent, Opened, Piece, Ended, Lost, events, sent, is_closed}
 use Rattle.port_model.specs.Chain.{Chain}
-use Rattle.mail_model.specs.declared.standing.Standing.{Standing}
-use Rattle.mail_model.specs.declared.standing.Standing.TheVariants.{Open, Closing, Lost as IsLost}
 use Rattle.mail_model.specs.Step.{World, Stepped, greeting}
 use Rattle.mail_model.specs.Machine.{Session, is_open, session_at, after, at_once, standing_after}
 use Rattle.mail_server.specs.declared.link.Link.{Link}
@@ -18,17 +16,20 @@ use Rattle.mail_server.specs.Calls.{Offers, Closes, TakesCalls}
 abbrev pub is_kept : List PortCall → Session → Bool
 is_kept history session = not (is_closed history session.number)
 
-abbrev pub stands_lost : Standing → Bool
-stands_lost Open = false
-stands_lost Closing = false
-stands_lost IsLost = true
+-- whether an event is that the link of a number is lost
+abbrev pub is_loss : ℕ → PortEvent → Bool
+is_loss number (Opened who kind) = false
+is_loss number (Piece who piece moment) = false
+is_loss number (Ended who) = false
+is_loss number (Lost who) = who == number
 
--- whether the session, if there is one, is lost
-abbrev pub is_lost : Option Session → Bool
-is_lost None = false
-is_lost (Some session) = stands_lost session.standing
+-- whether the link of a number was lost by one of some events
+abbrev pub is_lost : ℕ → List PortEvent → Bool
+is_lost number [] = false
+is_lost number (event ∷ older) = is_loss number event || is_lost number older
 
--- What was sent, with what is still to be sent, is what the machine answered. A lost session got the front of it.
+-- What was sent, with what is still to be sent, is what the machine answered. By a lost link its front was sent, and
+-- nothing is still to be sent.
 pub record Answered (lost : Bool) (sent queue out : List ℕ) : Type 0 where
   pub whole : lost ≡ false → sent ++ queue ≡ out
   pub front : lost ≡ true → (queue ≡ []) × ((rest : List ℕ) × (out ≡ sent ++ rest))
@@ -44,11 +45,14 @@ OpenAreKept history (session ∷ sessions) =
 pub record Serves (first : World) (history : List PortCall) (held : Held) : Type 0 where
   pub world : IsWorld held.core (after first history).world
   pub sessions : map session_of held.links ≡ filter (is_kept history) (after first history).sessions
-  pub answered : (number : ℕ) → Answered (is_lost (session_at number (after first history).sessions)) (sent history number) (queue_of number held.links) ((after first history).out number)
+  pub answered : (number : ℕ) → Answered (is_lost number (events history)) (sent history number) (queue_of number held.links) ((after first history).out number)
   pub ordered : Ascending 0 held.links held.last
   pub latest : held.last ≡ (after first history).last
-  pub later_open : (number : ℕ) → held.last < number → (is_closed history number ≡ false) × (session_at number (after first history).sessions ≡ None)
+  pub later_open : (number : ℕ) → held.last < number
+      → (is_closed history number ≡ false) × (session_at number (after first history).sessions ≡ None) × (is_lost number (events history) ≡ false)
   pub open_kept : OpenAreKept history (after first history).sessions
+  pub open_linked : (number : ℕ) (session : Session) → session_at number (after first history).sessions ≡ Some session → is_open session.standing ≡ true
+      → is_lost number (events history) ≡ false
 
 -- the same where the history is told
 abbrev pub Serving : World → Option (List PortCall) → Held → Type 0

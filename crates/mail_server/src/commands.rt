@@ -7,7 +7,9 @@ ghost use Rattle.mail_server.specs.Commands.{meaning};
 /// A command with its arguments.
 #[derive(Clone, Copy, Debug, PartialEq, Eq)]
 pub(crate) enum Command {
+    Capability,
     Noop,
+    Logout,
 }
 
 /// How a unit reads. A tag is borrowed from its unit.
@@ -47,8 +49,12 @@ fn split_tag(unit: &[u8]) -> (&[u8], &[u8])
 fn parse_behind<'a>(tag: &'a [u8], text: &[u8]) -> Parsed<'a>
     ensures { meaning result ≡ parsed_behind tag.now text.now }
 {
-    if text.eq_ignore_ascii_case(b"NOOP\r\n") {
+    if text.eq_ignore_ascii_case(b"CAPABILITY\r\n") {
+        Parsed::Tagged(tag, Command::Capability)
+    } else if text.eq_ignore_ascii_case(b"NOOP\r\n") {
         Parsed::Tagged(tag, Command::Noop)
+    } else if text.eq_ignore_ascii_case(b"LOGOUT\r\n") {
+        Parsed::Tagged(tag, Command::Logout)
     } else {
         Parsed::BadTagged(tag)
     }

@@ -11,6 +11,7 @@ ghost use Rattle.mail_server.specs.Held.{taking_in};
 ghost use Rattle.mail_server.specs.Calls.{Grows, Asks, read_room};
 ghost use Rattle.mail_server.specs.Heard.{Hears, IsTaking, AfterStep};
 
+use crate::ending::end_session;
 use crate::link::Link;
 use crate::shared::Core;
 use imap_lexer::{Fed, Lexer};
@@ -120,13 +121,11 @@ pub(crate) fn hear<P: Ports>(
         }
         PortRead::Quiet => Ok(()),
         PortRead::Ended => {
-            core.leave(link.number);
-            link.standing = Standing::Closing;
+            end_session(core, link);
             Ok(())
         }
         PortRead::Lost => {
-            core.leave(link.number);
-            link.standing = Standing::Lost;
+            end_session(core, link);
             Ok(())
         }
     }

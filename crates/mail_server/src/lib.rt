@@ -6,6 +6,7 @@
 
 mod answers;
 mod commands;
+mod ending;
 mod hearing;
 mod link;
 mod program;

@@ -1,12 +1,11 @@
 //! The words of the program, and what each does.
 
-ghost use Rattle.std.specs.Prelude.{All, ◌≡◌, ◌≢◌, ◌⊎◌, ◌↔◌, IfOk, IsTrue, IfSome, map, string_bytes, false};
+ghost use Rattle.std.specs.Prelude.{◌≡◌, ◌≢◌, ◌⊎◌, ◌↔◌, IfOk, IsTrue, IfSome, map, string_bytes, false};
 ghost use Rattle.fault_counts.specs.Rose.{Rose};
 ghost use Rattle.port_model.specs.History.{sent};
 ghost use Rattle.port_model.specs.Streams.{Appends};
 ghost use Rattle.port_model.specs.Script.{AreEvents};
 ghost use Rattle.mail_server.specs.declared.status.Status.TheVariants.{Done, Usage, ReadFault, WriteFault, BadScript};
-ghost use Rattle.mail_server.specs.OnScript.{StaysOpen};
 ghost use Rattle.mail_server.specs.Run.{AreScriptWords, IsAnswer, reading, IsCode, IsAtEnd, IsEnd, ReadsScript, WritesScript, WritesFront, EndsScript, code_of, script_status, script_output, transcript_of, bad_line};
 
 use crate::script::{Played, play};
@@ -175,7 +174,6 @@ fn answer_events<D>(
     files: Files<D>,
 ) -> (Result<Answer, AllocError>, Files<D>)
     requires kept { AreEvents events.items }
-    requires stays { All StaysOpen events.items }
     ensures answers { IfOk result.0 (λ answer. IsAnswer answer.status answer.lines.items (Ok events.items)) }
     ensures files { result.1 ≡ files }
 {

@@ -17,7 +17,7 @@ use crate::hearing::hear;
 use crate::link::Link;
 use crate::sending::offer;
 use crate::server::{LoadFault, Server, Unloaded};
-use crate::shared::Core;
+use crate::shared::{Core, SESSION_LIMIT};
 use disk_model::Files;
 use imap_lexer::Lexer;
 use mail_model::Standing;
@@ -51,6 +51,50 @@ pub(crate) fn new_buffer(alloc: Global) -> Result<Vec<u8>, AllocError>
     vec![in alloc; 0u8; READ_ROOM]
 }
 
+/// As many lexers as there are sessions at once.
+fn new_lexers(alloc: Global) -> Result<Vec<Lexer>, AllocError> {
+    let mut lexers = Vec::with_capacity(alloc, SESSION_LIMIT)?;
+    'lexers: for _ in 0..SESSION_LIMIT {
+        lexers.push(Lexer::new(alloc)?)?;
+    }
+    Ok(lexers)
+}
+
+/// A lexer of those that are spare, or a new one.
+fn take_lexer(alloc: Global, spare: &mut Vec<Lexer>) -> Result<Lexer, AllocError> {
+    match spare.pop() {
+        Some(lexer) => Ok(lexer),
+        None => Lexer::new(alloc),
+    }
+}
+
+/// Keeps a lexer for a link that is to come, unless there are enough. It takes no memory.
+fn spare_lexer(spare: &mut Vec<Lexer>, lexer: Lexer) {
+    if spare.len() < spare.capacity() {
+        let _ = spare.push(lexer);
+    }
+}
+
+/// The memory of a server: room to read into, the table of links, and lexers for them.
+#[derive(Drop)]
+struct Room {
+    buffer: Vec<u8>,
+    links: Vec<Link>,
+    spare: Vec<Lexer>,
+}
+
+/// Takes the memory for as many sessions as are served at once.
+fn new_room(alloc: Global) -> Result<Room, AllocError>
+    ensures buffer { IfOk result (λ room. length room.buffer.items ≡ 65536) }
+    ensures links { IfOk result (λ room. room.links.items ≡ []) }
+{
+    Ok(Room {
+        buffer: new_buffer(alloc)?,
+        links: Vec::with_capacity(alloc, SESSION_LIMIT)?,
+        spare: new_lexers(alloc)?,
+    })
+}
+
 /// How many links are open.
 fn count_open(links: &[Link]) -> usize
     ensures { result ≡ count_by (λ link. is_open link.standing) links.now }
@@ -59,7 +103,7 @@ fn count_open(links: &[Link]) -> usize
 }
 
 impl<D> Server<D> {
-    /// The server of a store, with no link yet. It touches no file.
+    /// The server of a store, with no link yet. It touches no file. The memory for the lines of 64 sessions is taken here.
     pub fn load(alloc: Global, files: Files<D>) -> Result<Server<D>, Unloaded<D>>
         ensures fresh { IfOk result (λ server. ((held server).links ≡ []) × ((held server).last ≡ 0) × (server.spent ≡ false)) }
         ensures stands { IfOk result (λ server. IsWorld (held server).core first_world) }
@@ -67,7 +111,14 @@ impl<D> Server<D> {
         ensures files { IfOk result (λ server. server.files ≡ files) }
         ensures back { IfErr result (λ unloaded. unloaded.files ≡ files) }
     {
-        let Ok(buffer) = new_buffer(alloc) else {
+        let Ok(
+            Room {
+                buffer,
+                links,
+                spare,
+            },
+        ) = new_room(alloc)
+        else {
             return Err(Unloaded {
                 fault: LoadFault::NoMemory,
                 files,
@@ -77,9 +128,10 @@ impl<D> Server<D> {
             files,
             alloc,
             core: Core::new(),
-            links: Vec::new(alloc),
+            links,
             last: 0,
             buffer,
+            spare,
             spent: false,
         })
     }
@@ -95,6 +147,7 @@ impl<D> Server<D> {
             links: _,
             last: _,
             buffer: _,
+            spare: _,
             spent: _,
         } = self;
         files
@@ -148,7 +201,13 @@ impl<D> Server<D> {
             return i + 1;
         }
         ports.close(link.number);
-        let _ = self.links.remove(i);
+        let Link {
+            number: _,
+            standing: _,
+            lexer,
+            queue: _,
+        } = self.links.remove(i);
+        spare_lexer(&mut self.spare, lexer);
         i
     }
 
@@ -192,7 +251,7 @@ impl<D> Server<D> {
     {
         let others = count_open(&self.links);
         let mut queue = Vec::new(self.alloc);
-        let mut lexer = Lexer::new(self.alloc)?;
+        let mut lexer = take_lexer(self.alloc, &mut self.spare)?;
         let outcome = self.core.greet(number, kind, others, &mut queue)?;
         lexer.next(outcome.plain);
         let standing = if outcome.closes {

@@ -1,11 +1,12 @@
 //! A script is played to its end.
 
-ghost use Rattle.std.specs.Prelude.{ℕ, ◌≡◌, false, [], All, OnOk, IfOk};
+ghost use Rattle.std.specs.Prelude.{ℕ, ◌≡◌, false, [], OnOk, IfOk};
 ghost use Rattle.port_model.specs.History.{sent};
 ghost use Rattle.port_model.specs.Playing.{playing};
 ghost use Rattle.port_model.specs.Script.{AreEvents};
 ghost use Rattle.mail_server.specs.Held.{held};
-ghost use Rattle.mail_server.specs.OnScript.{IsOnScript, StaysOpen};
+ghost use Rattle.mail_server.specs.OnScript.{IsOnScript};
+ghost use Rattle.mail_server.specs.Rounds.{script_sent};
 ghost use Rattle.mail_server.specs.Script.{first_world, script_machine};
 ghost use Rattle.mail_server.specs.Serves.{Serves};
 
@@ -31,9 +32,8 @@ pub(crate) fn play<D>(
     events: Vec<Event>,
 ) -> (Result<Played, AllocError>, Files<D>)
     requires kept { AreEvents events.items }
-    requires stays { All StaysOpen events.items }
     ensures recorded { IfOk result.0 (λ played. played.ports.starved ≡ false) }
-    ensures sent { IfOk result.0 (λ played. (number : ℕ) → sent played.ports.calls number ≡ (script_machine events.items).out number) }
+    ensures sent { IfOk result.0 (λ played. (number : ℕ) → sent played.ports.calls number ≡ script_sent events.items number) }
     ensures last { IfOk result.0 (λ played. played.last ≡ (script_machine events.items).last) }
     ensures files { result.1 ≡ files }
 {
@@ -57,9 +57,8 @@ fn play_on<D>(
     requires fresh { Serves first_world [] (held server.old) }
     requires unspent { server.old.spent ≡ false }
     requires kept { AreEvents events.items }
-    requires stays { All StaysOpen events.items }
     ensures recorded { IfOk result (λ played. played.ports.starved ≡ false) }
-    ensures sent { IfOk result (λ played. (number : ℕ) → sent played.ports.calls number ≡ (script_machine events.items).out number) }
+    ensures sent { IfOk result (λ played. (number : ℕ) → sent played.ports.calls number ≡ script_sent events.items number) }
     ensures last { IfOk result (λ played. played.last ≡ (script_machine events.items).last) }
     ensures files { server.new.files ≡ server.old.files }
 {

@@ -5,9 +5,9 @@ ghost use Rattle.port_model.specs.Ports.{NeverFall};
 ghost use Rattle.mail_server.specs.Calls.{Grows, Offers};
 ghost use Rattle.mail_server.specs.Heard.{Offered};
 
+use crate::ending::end_session;
 use crate::link::Link;
 use crate::shared::Core;
-use mail_model::Standing;
 use port_model::{PortSend, Ports};
 
 /// Takes the first bytes of a queue off.
@@ -34,8 +34,7 @@ pub(crate) fn offer<P: Ports>(core: &mut Core, link: &mut Link, ports: &mut P)
     match ports.send(link.number, &link.queue) {
         PortSend::Took(count) => drop_front(&mut link.queue, count),
         PortSend::Lost => {
-            core.leave(link.number);
-            link.standing = Standing::Lost;
+            end_session(core, link);
             link.queue.clear();
         }
     }

@@ -5,6 +5,7 @@ ghost use Rattle.std.specs.Prelude.{◌≡◌, length};
 use crate::link::Link;
 use crate::shared::Core;
 use disk_model::Files;
+use imap_lexer::Lexer;
 use std::alloc::Global;
 
 /// The server of one store.
@@ -21,6 +22,8 @@ pub struct Server<D> {
     pub(crate) last: u32,
     /// Where links are read into.
     pub(crate) buffer: Vec<u8>,
+    /// Lexers for links that are to come, each with its memory.
+    pub(crate) spare: Vec<Lexer>,
     /// Whether the server is given up.
     pub(crate) spent: bool,
     ghost room: { length buffer.items ≡ 65536 },

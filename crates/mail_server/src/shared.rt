@@ -1,8 +1,10 @@
 //! What the sessions share, and what a unit does to it.
 
 ghost use Rattle.std.specs.Prelude.{ℕ, ◌≡◌, ◌<◌, OnOk, IfOk};
-ghost use Rattle.mail_model.specs.Step.{World, step, greeting, left_by};
-ghost use Rattle.mail_server.specs.Core.{IsWorld, IsStep};
+ghost use Rattle.mail_model.specs.Step.{World, executed, step, greeting, left_by};
+ghost use Rattle.mail_server.specs.Core.{IsWorld, IsExecuted, IsStep};
+ghost use Rattle.mail_model.specs.Commands.{Tagged};
+ghost use Rattle.mail_server.specs.Commands.{meaning, command_meaning};
 ghost use Rattle.mail_server.specs.Script.{first_world};
 ghost use Rattle.imap_lexer.specs.Lexer.{form_of};
 
@@ -23,6 +25,48 @@ pub(crate) struct Outcome {
     pub(crate) closes: bool,
     /// Whether the session awaits a line without literals next.
     pub(crate) plain: bool,
+}
+
+/// How many sessions are served at once.
+pub(crate) const SESSION_LIMIT: usize = 64;
+
+/// Adds the answer to a command, and tells whether its session is over.
+fn answer_command(tag: &[u8], command: Command, answer: &mut Vec<u8>) -> Result<bool, AllocError>
+    ensures { IfOk result (λ closes. (world : World) → IsExecuted answer.old.items answer.new.items closes (executed world (Tagged tag.now (command_meaning command)))) }
+{
+    match command {
+        Command::Capability => {
+            answer.extend_from_slice(b"* CAPABILITY IMAP4rev1\r\n")?;
+            add_line(answer, tag, b" OK CAPABILITY completed\r\n")?;
+            Ok(false)
+        }
+        Command::Noop => {
+            add_line(answer, tag, b" OK NOOP completed\r\n")?;
+            Ok(false)
+        }
+        Command::Logout => {
+            answer.extend_from_slice(b"* BYE logging out\r\n")?;
+            add_line(answer, tag, b" OK LOGOUT completed\r\n")?;
+            Ok(true)
+        }
+    }
+}
+
+/// Adds the answer to a unit as it reads, and tells whether its session is over.
+fn answer_unit(parsed: Parsed<'_>, answer: &mut Vec<u8>) -> Result<bool, AllocError>
+    ensures { IfOk result (λ closes. (world : World) → IsExecuted answer.old.items answer.new.items closes (executed world (meaning parsed.entry))) }
+{
+    match parsed {
+        Parsed::Tagged(tag, command) => Ok(answer_command(tag, command, answer)?),
+        Parsed::BadTagged(tag) => {
+            add_line(answer, tag, b" BAD syntax\r\n")?;
+            Ok(false)
+        }
+        Parsed::BadUntagged => {
+            add_line(answer, b"*", b" BAD syntax\r\n")?;
+            Ok(false)
+        }
+    }
 }
 
 impl Core {
@@ -48,15 +92,15 @@ impl Core {
         ensures { IfOk result (λ outcome. (world : World) → IsWorld self.old world
             → IsStep self.new answer.old.items answer.new.items outcome.closes (form_of outcome.plain) (step world number (form_of plain) fed unit.now moment)) }
     {
-        match parse(unit) {
-            Parsed::Tagged(tag, Command::Noop) => {
-                add_line(answer, tag, b" OK NOOP completed\r\n")?;
+        let closes = match fed {
+            Fed::LineTooLong => {
+                answer.extend_from_slice(b"* BYE line too long\r\n")?;
+                true
             }
-            Parsed::BadTagged(tag) => add_line(answer, tag, b" BAD syntax\r\n")?,
-            Parsed::BadUntagged => add_line(answer, b"*", b" BAD syntax\r\n")?,
-        }
+            _ => answer_unit(parse(unit), answer)?,
+        };
         Ok(Outcome {
-            closes: false,
+            closes,
             plain: false,
         })
     }
@@ -74,9 +118,13 @@ impl Core {
             → IsStep self.new answer.old.items answer.new.items outcome.closes (form_of outcome.plain) (greeting world number kind others)) }
     {
         let closes = match kind {
-            Kind::Imap => {
+            Kind::Imap if others < SESSION_LIMIT => {
                 answer.extend_from_slice(b"* OK IMAP4rev1 ready\r\n")?;
                 false
+            }
+            Kind::Imap => {
+                answer.extend_from_slice(b"* BYE too many sessions\r\n")?;
+                true
             }
             Kind::Lmtp => {
                 answer.extend_from_slice(b"421 4.3.2 LMTP is not served\r\n")?;

@@ -1,9 +1,13 @@
 //! Runs of the program over sources and sinks in memory.
 
+ghost use Rattle.std.specs.Prelude.{◌≡◌, false};
+ghost use Rattle.port_model.specs.Script.{AreEvents};
+
 use crate::program::run;
+use crate::server::Server;
 use crate::streams::read_all;
 use disk_model::{Files, MemoryDisk};
-use port_model::{FixedClock, MemorySink, MemorySource, ScriptPorts, Source};
+use port_model::{Event, FixedClock, MemorySink, MemorySource, ScriptPorts, Source, parse_script};
 use std::alloc::{AllocError, Global};
 use std::test::Fail;
 
@@ -62,7 +66,7 @@ fn scripts_run(rt: HostRuntime) -> Result<(), Fail> {
         ("scripts", noop, 2, b""),
         ("Script", noop, 2, b""),
         ("", noop, 2, b""),
-        ("script", b"open imap\nend 1", 9, b"bad line 2\n"),
+        ("script", b"open imap\nend 2", 9, b"bad line 2\n"),
         ("script", b"open lmtp\n", 9, b"bad line 1\n"),
         ("script", b"open imap\nsend 1 0 \\r\\nb noop\\r\\n", 0, two),
         ("script", b"open imap\nsend 1 0 a NO\\x00OP\\r\\n", 0, bad),
@@ -86,18 +90,6 @@ fn scripts_run(rt: HostRuntime) -> Result<(), Fail> {
         assert_eq!(rt; got, status);
         assert_eq!(rt; written.as_slice(), lines);
     }
-    Ok(())
-}
-
-/// The demo's session, a byte in each piece.
-#[test]
-fn pieces_of_one_byte_are_joined(rt: HostRuntime) -> Result<(), Fail> {
-    let script =
-        b"open imap\nsend 1 0 a\nsend 1 0  \nsend 1 0 N\nsend 1 0 O\nsend 1 0 O\nsend 1 0 P\nsend 1 0 \\r\nsend 1 0 \\n";
-    let (status, written) = ran(rt.alloc(), "script", script, &[], &[])?;
-    assert_eq!(rt; status, 0);
-    let done = b"1: * OK IMAP4rev1 ready\\r\\n\n1: a OK NOOP completed\\r\\n\n";
-    assert_eq!(rt; written.as_slice(), done.as_slice());
     Ok(())
 }
 
@@ -153,5 +145,181 @@ fn long_scripts_are_refused(rt: HostRuntime) -> Result<(), Fail> {
     let (status, written) = ran(alloc, "script", &long_script(alloc)?, &[], &[])?;
     assert_eq!(rt; status, 9);
     assert_eq!(rt; written.as_slice(), b"bad script: too long\n".as_slice());
+    Ok(())
+}
+
+/// Adds a line in which the peer of a session sends one byte.
+fn send_byte(script: &mut Vec<u8>, session: u8, byte: u8) -> Result<(), AllocError> {
+    script.extend_from_slice(b"send ")?;
+    script.push(session)?;
+    script.extend_from_slice(b" 0 ")?;
+    match byte {
+        b'\r' => script.extend_from_slice(b"\\r\n"),
+        b'\n' => script.extend_from_slice(b"\\n\n"),
+        _ => script.extend_from_slice(&[byte, b'\n']),
+    }
+}
+
+#[test]
+fn sessions_take_turns_byte_by_byte(rt: HostRuntime) -> Result<(), Fail> {
+    let alloc = rt.alloc();
+    let first = b"a NOOP\r\n";
+    let second = b"b CAPABILITY\r\n";
+    let mut script = b"open imap\nopen imap\n".to_vec(alloc)?;
+    for (i, byte) in second.iter().enumerate() {
+        if i < first.len() {
+            send_byte(&mut script, b'1', first[i])?;
+        }
+        send_byte(&mut script, b'2', *byte)?;
+    }
+    let whole = b"open imap\nopen imap\nsend 1 0 a NOOP\\r\\n\nsend 2 0 b CAPABILITY\\r\\n";
+    let lines =
+        b"1: * OK IMAP4rev1 ready\\r\\n\n1: a OK NOOP completed\\r\\n\n2: * OK IMAP4rev1 ready\\r\\n\n2: * CAPABILITY IMAP4rev1\\r\\n\n2: b OK CAPABILITY completed\\r\\n\n";
+    for text in [script.as_slice(), whole] {
+        let (status, written) = ran(alloc, "script", text, &[], &[])?;
+        assert_eq!(rt; status, 0);
+        assert_eq!(rt; written.as_slice(), lines.as_slice());
+    }
+    Ok(())
+}
+
+// What ends a session, and what it is sent then.
+#[test]
+fn sessions_end(rt: HostRuntime) -> Result<(), Fail> {
+    let answered = b"1: * OK IMAP4rev1 ready\\r\\n\n1: a OK NOOP completed\\r\\n\n".as_slice();
+    let logged_out =
+        b"1: * OK IMAP4rev1 ready\\r\\n\n1: * BYE logging out\\r\\n\n1: a OK LOGOUT completed\\r\\n\n".as_slice();
+    let one_lost =
+        b"1: * OK IMAP4rev1 ready\\r\\n\n1: a OK NOOP completed\\r\\n\n2: * OK IMAP4rev1 ready\\r\\n\n".as_slice();
+    let cases: [(&[u8], &[u8]); 6] = [
+        // What was queued when the link was lost is lost, be it the greeting or an answer.
+        (b"open imap\nlose 1", b""),
+        (b"open imap\nsend 1 0 a NOOP\\r\\n\nlose 1", READY),
+        // A peer that ended its side is still answered.
+        (
+            b"# one\n\nopen imap\nsend 1 0 a NOOP\\r\\n\nend 1\n",
+            answered,
+        ),
+        // What stands behind LOGOUT is dropped, in the piece and after it.
+        (
+            b"open imap\nsend 1 0 a LOGOUT\\r\\nb NOOP\\r\\n\nsend 1 0 c NOOP\\r\\n\nend 1",
+            logged_out,
+        ),
+        // Session 2 is lost before its answer is sent. What session 1 was answered is sent by then.
+        (
+            b"open imap\nopen imap\nsend 1 0 a NOOP\\r\\n\nsend 2 0 b NOOP\\r\\n\nlose 2\nlose 1",
+            one_lost,
+        ),
+        (b"open imap\nsend 1 0 a NO\nlose 1", READY),
+    ];
+    for (script, lines) in cases {
+        let (status, written) = ran(rt.alloc(), "script", script, &[], &[])?;
+        assert_eq!(rt; status, 0);
+        assert_eq!(rt; written.as_slice(), lines);
+    }
+    Ok(())
+}
+
+fn open_many(alloc: Global, count: u32) -> Result<Vec<u8>, AllocError> {
+    let mut script = Vec::new(alloc);
+    for _ in 0..count {
+        script.extend_from_slice(b"open imap\n")?;
+    }
+    Ok(script)
+}
+
+#[test]
+fn sixty_four_sessions_are_served_at_once(rt: HostRuntime) -> Result<(), Fail> {
+    let alloc = rt.alloc();
+    let mut script = open_many(alloc, 65)?;
+    let (status, written) = ran(alloc, "script", &script, &[], &[])?;
+    assert_eq!(rt; status, 0);
+    assert_eq!(rt; written.iter().filter(|byte| **byte == b'\n').count(), 65);
+    assert!(rt;
+        written.ends_with(b"\n64: * OK IMAP4rev1 ready\\r\\n\n65: * BYE too many sessions\\r\\n\n")
+    );
+
+    // The 65th isn't one of those that are served, and one of them leaves room for a 66th.
+    script.extend_from_slice(b"send 3 0 a LOGOUT\\r\\n\nopen imap\n")?;
+    let (status, written) = ran(alloc, "script", &script, &[], &[])?;
+    assert_eq!(rt; status, 0);
+    assert!(rt; written.ends_with(b"\n66: * OK IMAP4rev1 ready\\r\\n\n"));
+    Ok(())
+}
+
+/// A script of one line of so many letters, and a command behind it.
+fn long_line(alloc: Global, letters: usize) -> Result<Vec<u8>, AllocError> {
+    let mut script = b"open imap\nsend 1 0 ".to_vec(alloc)?;
+    for _ in 0..letters {
+        script.push(b'x')?;
+    }
+    script.extend_from_slice(b"\\r\\n\nsend 1 0 a NOOP\\r\\n\n")?;
+    Ok(script)
+}
+
+#[test]
+fn lines_have_8192_bytes_at_most(rt: HostRuntime) -> Result<(), Fail> {
+    let alloc = rt.alloc();
+    let (status, written) = ran(alloc, "script", &long_line(alloc, 8190)?, &[], &[])?;
+    let taken =
+        b"1: * OK IMAP4rev1 ready\\r\\n\n1: * BAD syntax\\r\\n\n1: a OK NOOP completed\\r\\n\n";
+    assert_eq!(rt; status, 0);
+    assert_eq!(rt; written.as_slice(), taken.as_slice());
+
+    // The 8,193rd byte is the LF.
+    let (status, written) = ran(alloc, "script", &long_line(alloc, 8191)?, &[], &[])?;
+    let closed = b"1: * OK IMAP4rev1 ready\\r\\n\n1: * BYE line too long\\r\\n\n";
+    assert_eq!(rt; status, 0);
+    assert_eq!(rt; written.as_slice(), closed.as_slice());
+    Ok(())
+}
+
+/// Makes so many rounds.
+fn rounds(server: &mut Server<MemoryDisk>, ports: &mut ScriptPorts, count: u32) -> bool
+    requires { server.old.spent ≡ false }
+{
+    'rounds: for _ in 0..count {
+        if server.round(ports).is_err() {
+            return false;
+        }
+    }
+    true
+}
+
+/// What session 1 is sent in 40 rounds by links that take nothing, a byte or seven bytes at a time; nothing where events
+/// are left then.
+fn sent_slowly(alloc: Global, events: Vec<Event>) -> Result<Vec<u8>, AllocError>
+    requires { AreEvents events.items }
+{
+    let mut sends = Vec::new(alloc);
+    for _ in 0..12 {
+        sends.extend_from_slice(&[0, 1, 7])?;
+    }
+    let mut ports = ScriptPorts::new(alloc, events, sends)?;
+    let files = Files {
+        log0: no_disk(alloc)?,
+        log1: no_disk(alloc)?,
+        bodies: no_disk(alloc)?,
+    };
+    let Ok(mut server) = Server::load(alloc, files) else {
+        return Ok(Vec::new(alloc));
+    };
+    if rounds(&mut server, &mut ports, 40) && ports.done() {
+        ports.sent(1).to_vec(alloc)
+    } else {
+        Ok(Vec::new(alloc))
+    }
+}
+
+#[test]
+fn slow_links_are_sent_the_same(rt: HostRuntime) -> Result<(), Fail> {
+    let alloc = rt.alloc();
+    let text = b"open imap\nsend 1 0 a NOOP\\r\\n\nsend 1 0 b NOOP\\r\\n\n";
+    let sent = match parse_script(alloc, text) {
+        Ok(events) => sent_slowly(alloc, events)?,
+        Err(_) => Vec::new(alloc),
+    };
+    let all = b"* OK IMAP4rev1 ready\r\na OK NOOP completed\r\nb OK NOOP completed\r\n";
+    assert_eq!(rt; sent.as_slice(), all.as_slice());
     Ok(())
 }

@@ -1,4 +1,6 @@
 pub mod Records
 pub mod Left
 mod ScriptLemmas
+mod OpenSessionsLemmas
+mod ScriptLinesLemmas
 mod TranscriptLemmas

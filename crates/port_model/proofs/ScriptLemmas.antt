@@ -1,21 +1,20 @@
 -- Scripts, their lines and what these say.
 use Rattle.std.proofs.Common.{◌≡◌, ℕ, ◌+◌, ◌-◌, ◌<◌, ◌≤◌, Bool, true, false, not, List, [], ◌∷◌, ◌++◌, length, get_or, take, drop, ◌*◌, refl, sym, ◌∙◌, ap, subst, arith, append_assoc, append-nil, length-append, length-drop, ◌==◌, nat_lt, nat_le, ◌&&◌, if◌then◌else◌}
-use Rattle.std.specs.Prelude.{Option, Some, None, Result, Ok, Err, IfSome, All, count_by, codes, bytes_eq, option_map}
+use Rattle.std.specs.Prelude.{Option, Some, None, Result, Ok, Err, IfSome, All, codes, bytes_eq, option_map}
 use Rattle.std.specs.List.{onto_first, before_first, after_first, position_or_len, list_all, starts_with}
 use Rattle.std.specs.Char.{digit_value, is_ascii_digit}
 use Rattle.std.specs.Str.Parse.{digits_value}
 use Rattle.std.proofs.lemmas.Str.Parse.{digits_value-take-le}
 use Rattle.std.proofs.lemmas.Bool.Decides.{nat_tests}
 use Rattle.std.proofs.lemmas.Option.{cond_some, option_and_then_some}
-use Rattle.std.proofs.lemmas.List.Sums.{sum_by-append, count_by-le-length, AllPass-from_list_all}
+use Rattle.std.proofs.lemmas.List.Sums.{count_by-le-length, AllPass-from_list_all}
 use Rattle.std.proofs.lemmas.Int.Digits.{digits_value_more}
-use Rattle.std.proofs.lemmas.List.Folds.{list_any-append}
 use Rattle.std.proofs.lemmas.List.Elements.{All-cons, All-nil}
 use Rattle.port_model.specs.declared.calls.Kind.TheVariants.{Imap}
 use Rattle.port_model.specs.declared.events.Event.{Event}
 use Rattle.port_model.specs.declared.events.Event.TheVariants.{Opens, Piece, Ends, Loses}
 use Rattle.port_model.specs.Streams.{last_moment}
-use Rattle.port_model.specs.Script.{script_lines, is_number, number_up_to, in_front, sized, piece, sent_piece, word, behind_word, text_bytes, line_event, follows, is_open, opens, closes, next_event, with_line, events_after, script_events, IsPiece, IsOnOpen, AreOnOpen, AreEvents, AreOpened}
+use Rattle.port_model.specs.Script.{script_lines, is_number, number_up_to, in_front, sized, piece, sent_piece, word, behind_word, text_bytes, line_event, follows, opens, says_nothing, session_number, closing_event, next_event, with_line, events_after, script_events, IsPiece, IsOnOpen, AreOnOpen, AreEvents}
 
 -- Numbers.
 
@@ -69,7 +68,7 @@ script_lines-first (c ∷ d ∷ ds) some =
     elim (c == 10) as (λ b. if b then [] ∷ script_lines (d ∷ ds) else onto_first c (script_lines (d ∷ ds)) ≡ take (if not b then 1 + n else 0) (c ∷ d ∷ ds) ∷ script_lines (drop ((if not b then 1 + n else 0) + 1) (c ∷ d ∷ ds)))
     [ true ↦ refl | false ↦ cut-later c (d ∷ ds) n (script_lines (d ∷ ds)) (script_lines-first (d ∷ ds) (omega arith)) ]
 
-pub length-after_first : (p : ℕ → Bool) (text : List ℕ) → 0 < length text → length (after_first p text) + 1 ≤ length text
+length-after_first : (p : ℕ → Bool) (text : List ℕ) → 0 < length text → length (after_first p text) + 1 ≤ length text
 length-after_first p text some = omega (arith, length-drop (position_or_len p text + 1) text)
 
 length-onto_first : (c : ℕ) (ls : List (List ℕ)) → length (onto_first c ls) ≤ length ls + 1
@@ -90,37 +89,66 @@ abbrev pub behind : List Event → ℕ → Result (List Event) ℕ → Result (L
 behind done number (Ok later) = Ok (done ++ later)
 behind done number (Err n) = Err (number + n)
 
-pub behind-with_line : (done : List Event) (number : ℕ) (event : Event) (later : Result (List Event) ℕ) → behind done number (with_line event later) ≡ behind (done ++ event ∷ []) (number + 1) later
-behind-with_line done number event (Ok later) = ap Ok (sym (append_assoc done (event ∷ []) later))
-behind-with_line done number event (Err n) = let e : number + (n + 1) ≡ number + 1 + n = omega arith in ap Err e
+behind-with_nothing : (done : List Event) (number : ℕ) (later : Result (List Event) ℕ) → behind done number (with_line [] later) ≡ behind done (number + 1) later
+behind-with_nothing done number (Ok later) = refl
+behind-with_nothing done number (Err n) = let e : number + (n + 1) ≡ number + 1 + n = omega arith in ap Err e
 
-pub events_after-bad : (before : List Event) (line : List ℕ) (lines : List (List ℕ)) → next_event before line ≡ None → events_after before (line ∷ lines) ≡ Err 1
-events_after-bad before line lines bad = rw (bad, events_after)
+behind-with_event : (done : List Event) (number : ℕ) (event : Event) (later : Result (List Event) ℕ) → behind done number (with_line (event ∷ []) later) ≡ behind (done ++ event ∷ []) (number + 1) later
+behind-with_event done number event (Ok later) = ap Ok (sym (append_assoc done (event ∷ []) later))
+behind-with_event done number event (Err n) = let e : number + (n + 1) ≡ number + 1 + n = omega arith in ap Err e
 
-pub events_after-good : (before : List Event) (line : List ℕ) (lines : List (List ℕ)) (event : Event) → next_event before line ≡ Some event → events_after before (line ∷ lines) ≡ with_line event (events_after (before ++ event ∷ []) lines)
-events_after-good before line lines event good = rw (good, events_after)
+pub events_after-nothing : (before : List Event) (line : List ℕ) (lines : List (List ℕ)) → says_nothing line ≡ true → events_after before (line ∷ lines) ≡ with_line [] (events_after before lines)
+events_after-nothing before line lines nothing = rw (nothing, events_after)
+
+pub events_after-bad : (before : List Event) (line : List ℕ) (lines : List (List ℕ)) → says_nothing line ≡ false → next_event before line ≡ None → events_after before (line ∷ lines) ≡ Err 1
+events_after-bad before line lines something bad = rw (something, bad, events_after)
+
+pub events_after-good : (before : List Event) (line : List ℕ) (lines : List (List ℕ)) (event : Event) → says_nothing line ≡ false → next_event before line ≡ Some event
+    → events_after before (line ∷ lines) ≡ with_line (event ∷ []) (events_after (before ++ event ∷ []) lines)
+events_after-good before line lines event something good = rw (something, good, events_after)
+
+-- Where the lines up to some place are good, their events are known, and what is left of the text says the rest.
+pub record AreDone (text left : List ℕ) (done : List Event) (number : ℕ) : Type 0 where
+  pub so_far : behind done number (events_after done (script_lines left)) ≡ script_events text
+
+-- a line of what is left
+pub record IsLine (left line rest : List ℕ) : Type 0 where
+  pub some : 0 < length left
+  pub first : line ≡ before_first (λ c. c == 10) left
+  pub later : rest ≡ after_first (λ c. c == 10) left
+
+pub line-shorter : (left line rest : List ℕ) → IsLine left line rest → length rest + 1 ≤ length left
+line-shorter left line rest is = rw is.later (length-after_first (λ c. c == 10) left is.some)
+
+lines-first : (left line rest : List ℕ) → IsLine left line rest → script_lines left ≡ line ∷ script_lines rest
+lines-first left line rest is = script_lines-first left is.some ∙ rw (is.first, is.later)
 
 -- the first bad line stands behind some good ones
-pub script_events-bad : (text left line : List ℕ) (done : List Event) (number : ℕ) → behind done number (events_after done (script_lines left)) ≡ script_events text → 0 < length left
-    → line ≡ before_first (λ c. c == 10) left → next_event done line ≡ None → script_events text ≡ Err (number + 1)
-script_events-bad text left line done number so_far some first bad =
-    let rest = script_lines (after_first (λ c. c == 10) left) in
-    let lines : script_lines left ≡ line ∷ rest = script_lines-first left some ∙ ap (λ l. l ∷ rest) (sym first) in
-    sym so_far ∙ ap (λ ls. behind done number (events_after done ls)) lines ∙ ap (behind done number) (events_after-bad done line rest bad)
+pub script_events-bad : (text left line rest : List ℕ) (done : List Event) (number : ℕ) → AreDone text left done number → IsLine left line rest → says_nothing line ≡ false → next_event done line ≡ None
+    → script_events text ≡ Err (number + 1)
+script_events-bad text left line rest done number before is something bad =
+    sym before.so_far ∙ ap (λ ls. behind done number (events_after done ls)) (lines-first left line rest is)
+    ∙ ap (behind done number) (events_after-bad done line (script_lines rest) something bad)
 
-pub script_events-step : (text left line rest : List ℕ) (done : List Event) (number : ℕ) (event : Event) → behind done number (events_after done (script_lines left)) ≡ script_events text → 0 < length left
-    → line ≡ before_first (λ c. c == 10) left → rest ≡ after_first (λ c. c == 10) left → next_event done line ≡ Some event
-    → behind (done ++ event ∷ []) (number + 1) (events_after (done ++ event ∷ []) (script_lines rest)) ≡ script_events text
-script_events-step text left line rest done number event so_far some first behind_it good =
-    let lines : script_lines left ≡ line ∷ script_lines rest = script_lines-first left some ∙ rw (first, behind_it) in
-    sym (behind-with_line done number event (events_after (done ++ event ∷ []) (script_lines rest)))
-    ∙ ap (behind done number) (sym (events_after-good done line (script_lines rest) event good))
-    ∙ ap (λ ls. behind done number (events_after done ls)) (sym lines) ∙ so_far
+pub AreDone-nothing : (text left line rest : List ℕ) (done : List Event) (number : ℕ) → AreDone text left done number → IsLine left line rest → says_nothing line ≡ true → AreDone text rest done (number + 1)
+AreDone-nothing text left line rest done number before is nothing = record {
+  so_far = sym (behind-with_nothing done number (events_after done (script_lines rest)))
+      ∙ ap (behind done number) (sym (events_after-nothing done line (script_lines rest) nothing))
+      ∙ ap (λ ls. behind done number (events_after done ls)) (sym (lines-first left line rest is)) ∙ before.so_far;
+}
+
+pub AreDone-event : (text left line rest : List ℕ) (done : List Event) (number : ℕ) (event : Event) → AreDone text left done number → IsLine left line rest → says_nothing line ≡ false → next_event done line ≡ Some event
+    → AreDone text rest (done ++ event ∷ []) (number + 1)
+AreDone-event text left line rest done number event before is something good = record {
+  so_far = sym (behind-with_event done number event (events_after (done ++ event ∷ []) (script_lines rest)))
+      ∙ ap (behind done number) (sym (events_after-good done line (script_lines rest) event something good))
+      ∙ ap (λ ls. behind done number (events_after done ls)) (sym (lines-first left line rest is)) ∙ before.so_far;
+}
 
 -- no line is left
-pub script_events-all : (text left : List ℕ) (done : List Event) (number : ℕ) → behind done number (events_after done (script_lines left)) ≡ script_events text → length left ≡ 0 → script_events text ≡ Ok done
-script_events-all text [] done number so_far none = sym so_far ∙ ap Ok (append-nil done)
-script_events-all text (c ∷ cs) done number so_far none = absurd (omega arith)
+pub script_events-all : (text left : List ℕ) (done : List Event) (number : ℕ) → AreDone text left done number → length left ≡ 0 → script_events text ≡ Ok done
+script_events-all text [] done number before none = sym before.so_far ∙ ap Ok (append-nil done)
+script_events-all text (c ∷ cs) done number before none = absurd (omega arith)
 
 -- what a good line's event is
 pub record IsNext (before : List Event) (line : List ℕ) (event : Event) : Type 0 where
@@ -166,11 +194,24 @@ sent_piece-fits line =
     piece-fits (number_up_to 0xffff_ffff (word line)) (number_up_to last_moment (word (behind_word line))) (sized (text_bytes (behind_word (behind_word line))))
     (number_up_to-fits last_moment (word (behind_word line))) (sized-fits (text_bytes (behind_word (behind_word line))))
 
-pub line_event-fits : (line : List ℕ) (event : Event) → line_event line ≡ Some event → IsPiece event
+number-fits : (make : ℕ → Event) (number : Option ℕ) → ((n : ℕ) → IsPiece (make n)) → IfSome (option_map make number) IsPiece
+number-fits make None fits = tt
+number-fits make (Some n) fits = fits n
+
+closing_event-fits : (line : List ℕ) → IfSome (closing_event line) IsPiece
+unfolding closing_event
+closing_event-fits line =
+    choice-fits IsPiece (starts_with (λ a b. a == b) line (codes "end ")) (option_map Ends (session_number (drop 4 line)))
+    (if starts_with (λ a b. a == b) line (codes "lose ") then option_map Loses (session_number (drop 5 line)) else None)
+    (λ _. number-fits Ends (session_number (drop 4 line)) (λ _. tt))
+    (λ _. choice-fits IsPiece (starts_with (λ a b. a == b) line (codes "lose ")) (option_map Loses (session_number (drop 5 line))) None
+    (λ _. number-fits Loses (session_number (drop 5 line)) (λ _. tt)) (λ _. tt))
+
+line_event-fits : (line : List ℕ) (event : Event) → line_event line ≡ Some event → IsPiece event
 line_event-fits line event said =
     let fits : IfSome (line_event line) IsPiece =
-    choice-fits IsPiece (bytes_eq line (codes "open imap")) (Some (Opens Imap)) (if starts_with (λ a b. a == b) line (codes "send ") then sent_piece (drop 5 line) else None) (λ _. tt)
-    (λ _. choice-fits IsPiece (starts_with (λ a b. a == b) line (codes "send ")) (sent_piece (drop 5 line)) None (λ _. sent_piece-fits (drop 5 line)) (λ _. tt)) in
+    choice-fits IsPiece (bytes_eq line (codes "open imap")) (Some (Opens Imap)) (if starts_with (λ a b. a == b) line (codes "send ") then sent_piece (drop 5 line) else closing_event line) (λ _. tt)
+    (λ _. choice-fits IsPiece (starts_with (λ a b. a == b) line (codes "send ")) (sent_piece (drop 5 line)) (closing_event line) (λ _. sent_piece-fits (drop 5 line)) (λ _. closing_event-fits line)) in
     subst (λ (o : Option Event). IfSome o IsPiece) said fits
 
 pub sent_piece-parts : (line first rest second text : List ℕ) → first ≡ before_first (λ c. c == 32) line → rest ≡ after_first (λ c. c == 32) line → second ≡ before_first (λ c. c == 32) rest → text ≡ after_first (λ c. c == 32) rest
@@ -184,26 +225,6 @@ piece-no_moment (Some number) moment bytes none = rw none
 pub piece-parts : (number moment : Option ℕ) (bytes : Option (List ℕ)) (n m : ℕ) (cs : List ℕ) → number ≡ Some n → moment ≡ Some m → bytes ≡ Some cs → Some (Piece n cs m) ≡ piece number moment bytes
 piece-parts number moment bytes n m cs number_is moment_is bytes_is = rw (number_is, moment_is, bytes_is)
 
--- Openings.
-
--- an event that opens nothing and closes nothing, behind others
-more : (before : List Event) (event : Event) → AreOpened before → opens event ≡ false → ((number : ℕ) → closes number event ≡ false) → 0 < count_by opens before → AreOpened (before ++ event ∷ [])
-more before event opened no_open no_close some = record {
-  openings = grind (arith, nat_tests, sum_by-append (λ x. if opens x then 1 else 0) before (event ∷ []), length-append before (event ∷ []), opened.openings, no_open);
-  none_closed = λ number. grind (arith, nat_tests, list_any-append (closes number) before (event ∷ []), opened.none_closed number, no_close number);
-}
-
-pub AreOpened-more : (before : List Event) (event : Event) → AreOpened before → follows before event ≡ true → AreOpened (before ++ event ∷ [])
-AreOpened-more [] (Opens kind) opened good = record { openings = refl; none_closed = λ number. refl }
-AreOpened-more (e ∷ es) (Opens kind) opened good = absurd (grind (arith, nat_tests))
-AreOpened-more before (Piece who bytes moment) opened good =
-    more before (Piece who bytes moment) opened refl (λ number. refl) (grind (arith, nat_tests))
-AreOpened-more before (Ends who) opened good = absurd (cc)
-AreOpened-more before (Loses who) opened good = absurd (cc)
-
-pub is_open-first : (before : List Event) (who : ℕ) → AreOpened before → who ≡ 1 → not (length before == 0) ≡ is_open before who
-is_open-first before who opened first = grind (arith, nat_tests, opened.openings, opened.none_closed who)
-
 -- What the events of lines keep to.
 
 pub record AreKept (before : List Event) (lines : List (List ℕ)) (events : List Event) : Type 0 where
@@ -214,13 +235,21 @@ pub record AreKept (before : List Event) (lines : List (List ℕ)) (events : Lis
 follows-on_open : (before : List Event) (event : Event) → follows before event ≡ true → IsOnOpen before event
 follows-on_open before (Opens kind) good = tt
 follows-on_open before (Piece who bytes moment) good = good
-follows-on_open before (Ends who) good = absurd (cc)
-follows-on_open before (Loses who) good = absurd (cc)
+follows-on_open before (Ends who) good = good
+follows-on_open before (Loses who) good = good
 
-with_line-kept : (before : List Event) (line : List ℕ) (lines : List (List ℕ)) (event : Event) (events : List Event) → IsNext before line event → (later : Result (List Event) ℕ)
-    → ((es : List Event) → later ≡ Ok es → AreKept (before ++ event ∷ []) lines es) → with_line event later ≡ Ok events → AreKept before (line ∷ lines) events
-with_line-kept before line lines event events next (Err n) kept is = absurd (cc)
-with_line-kept before line lines event events next (Ok es) kept is =
+nothing-kept : (before : List Event) (line : List ℕ) (lines : List (List ℕ)) (events : List Event) (later : Result (List Event) ℕ)
+    → ((es : List Event) → later ≡ Ok es → AreKept before lines es) → with_line [] later ≡ Ok events → AreKept before (line ∷ lines) events
+nothing-kept before line lines events (Err n) kept is = absurd (cc)
+nothing-kept before line lines events (Ok es) kept is =
+    let same : es ≡ events = cc in
+    let more = kept events (ap Ok same) in
+    record { pieces = more.pieces; on_open = more.on_open; few = omega (arith, more.few) }
+
+event-kept : (before : List Event) (line : List ℕ) (lines : List (List ℕ)) (event : Event) (events : List Event) → IsNext before line event → (later : Result (List Event) ℕ)
+    → ((es : List Event) → later ≡ Ok es → AreKept (before ++ event ∷ []) lines es) → with_line (event ∷ []) later ≡ Ok events → AreKept before (line ∷ lines) events
+event-kept before line lines event events next (Err n) kept is = absurd (cc)
+event-kept before line lines event events next (Ok es) kept is =
     let more = kept es refl in
     let whole : event ∷ es ≡ events = cc in
     subst (AreKept before (line ∷ lines)) whole record {
@@ -229,24 +258,29 @@ with_line-kept before line lines event events next (Ok es) kept is =
       few = omega (arith, more.few);
     }
 
-line-kept : (before : List Event) (line : List ℕ) (lines : List (List ℕ)) (events : List Event) (next : Option Event) → next_event before line ≡ next
-    → ((event : Event) (es : List Event) → events_after (before ++ event ∷ []) lines ≡ Ok es → AreKept (before ++ event ∷ []) lines es)
-    → events_after before (line ∷ lines) ≡ Ok events → AreKept before (line ∷ lines) events
-line-kept before line lines events None next kept is = let bad = events_after-bad before line lines next in absurd (cc)
-line-kept before line lines events (Some event) next kept is =
-    with_line-kept before line lines event events (next_event-Some before line event next) (events_after (before ++ event ∷ []) lines) (kept event)
-    (sym (events_after-good before line lines event next) ∙ is)
+-- what is known of the lines that follow, whatever came before them
+abbrev KeepLater : List (List ℕ) → Type 0
+KeepLater lines = (before events : List Event) → events_after before lines ≡ Ok events → AreKept before lines events
 
-pub events_after-kept : (before : List Event) (lines : List (List ℕ)) (events : List Event) → events_after before lines ≡ Ok events → AreKept before lines events
-events_after-kept before [] events is =
+line-kept : (before : List Event) (line : List ℕ) (lines : List (List ℕ)) (events : List Event) (nothing : Bool) (next : Option Event) → says_nothing line ≡ nothing → next_event before line ≡ next
+    → KeepLater lines → events_after before (line ∷ lines) ≡ Ok events → AreKept before (line ∷ lines) events
+line-kept before line lines events true next says said kept is =
+    nothing-kept before line lines events (events_after before lines) (kept before) (sym (events_after-nothing before line lines says) ∙ is)
+line-kept before line lines events false None says said kept is = let bad = events_after-bad before line lines says said in absurd (cc)
+line-kept before line lines events false (Some event) says said kept is =
+    event-kept before line lines event events (next_event-Some before line event said) (events_after (before ++ event ∷ []) lines) (kept (before ++ event ∷ []))
+    (sym (events_after-good before line lines event says said) ∙ is)
+
+events_after-kept : (lines : List (List ℕ)) → KeepLater lines
+events_after-kept [] before events is =
     let none : [] ≡ events = cc in
     subst (AreKept before []) none record { pieces = All-nil IsPiece; on_open = tt; few = omega arith }
-events_after-kept before (line ∷ lines) events is =
-    line-kept before line lines events (next_event before line) refl (λ event es e. events_after-kept (before ++ event ∷ []) lines es e) is
+events_after-kept (line ∷ lines) before events is =
+    line-kept before line lines events (says_nothing line) (next_event before line) refl refl (events_after-kept lines) is
 
 pub script_events-kept : (text : List ℕ) (events : List Event) → length text ≤ 67108864 → script_events text ≡ Ok events → AreEvents events
 script_events-kept text events small is =
-    let kept = events_after-kept [] (script_lines text) events is in
+    let kept = events_after-kept (script_lines text) [] events is in
     record {
       pieces = kept.pieces;
       on_open = kept.on_open;

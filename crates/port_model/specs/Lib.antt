@@ -9,4 +9,6 @@ pub mod Player
 pub mod ScriptPorts
 pub mod SentTexts
 pub mod Script
+pub mod ScriptLines
+pub mod OpenSessions
 pub mod Transcript

@@ -1,5 +1,5 @@
 -- The texts of scripts: what each line says, and what a script of lines says.
-use Rattle.std.specs.Prelude.{ℕ, ◌≡◌, ◌≤◌, ◌<◌, ◌+◌, ◌*◌, ◌^◌, ◌==◌, ◌&&◌, ◌||◌, Bool, true, false, not, nat_lt, nat_le, List, [], ◌∷◌, ◌++◌, Option, Some, None, option_map, option_and_then, Result, Ok, Err, length, drop, min, slice_index, count_by, codes, bytes_eq, IsTrue, All, if◌then◌else◌}
+use Rattle.std.specs.Prelude.{ℕ, ◌≡◌, ◌≤◌, ◌<◌, ◌+◌, ◌*◌, ◌^◌, ◌==◌, ◌&&◌, ◌||◌, Bool, true, false, not, nat_lt, nat_le, List, [], ◌∷◌, ◌++◌, Option, Some, None, option_map, option_and_then, Result, Ok, Err, length, drop, slice_index, count_by, codes, bytes_eq, IsTrue, All, if◌then◌else◌}
 use Rattle.std.specs.List.{onto_first, before_first, after_first, starts_with, list_all, list_any}
 use Rattle.std.specs.Char.{digit_value, is_digit, is_ascii_digit}
 use Rattle.std.specs.Borrow.{Bor}
@@ -65,16 +65,31 @@ word line = before_first (λ c. c == byte " ") line
 abbrev pub behind_word : List ℕ → List ℕ
 behind_word line = after_first (λ c. c == byte " ") line
 
--- `N MOMENT TEXT`: session N's peer sends the bytes of TEXT. A number past the largest of a `u32` names no session.
+-- the number of a session in digits; none is past the largest of a `u32`
+abbrev pub session_number : List ℕ → Option ℕ
+session_number digits = number_up_to 0xffff_ffff digits
+
+-- `N MOMENT TEXT`: session N's peer sends the bytes of TEXT.
 abbrev pub sent_piece : List ℕ → Option Event
 sent_piece line =
-    piece (number_up_to 0xffff_ffff (word line)) (number_up_to last_moment (word (behind_word line))) (sized (text_bytes (behind_word (behind_word line))))
+    piece (session_number (word line)) (number_up_to last_moment (word (behind_word line))) (sized (text_bytes (behind_word (behind_word line))))
 
--- What a line says, by itself.
+-- `end N`: session N's peer closes its side. `lose N`: its link is lost.
+unfoldable pub closing_event : List ℕ → Option Event
+closing_event line =
+    if starts_with (λ a b. a == b) line (codes "end ") then option_map Ends (session_number (drop 4 line))
+    else (if starts_with (λ a b. a == b) line (codes "lose ") then option_map Loses (session_number (drop 5 line)) else None)
+
+-- The event that a line has happen, by itself.
 abbrev pub line_event : List ℕ → Option Event
 line_event line =
     if bytes_eq line (codes "open imap") then Some (Opens Imap)
-    else (if starts_with (λ a b. a == b) line (codes "send ") then sent_piece (drop 5 line) else None)
+    else (if starts_with (λ a b. a == b) line (codes "send ") then sent_piece (drop 5 line) else closing_event line)
+
+-- Whether a line says nothing: it is empty, or begins with `#`.
+abbrev pub says_nothing : List ℕ → Bool
+says_nothing [] = true
+says_nothing (c ∷ cs) = c == byte "#"
 
 abbrev pub opens : Event → Bool
 opens (Opens kind) = true
@@ -93,26 +108,33 @@ closes number (Loses who) = who == number
 abbrev pub is_open : List Event → ℕ → Bool
 is_open events number = nat_lt 0 number && nat_le number (count_by opens events) && not (list_any (closes number) events)
 
--- Whether an event may come after those before it. The one session opens first, and no line ends or loses it.
+-- Whether an event may come after those before it: a session may open at any time, and all else happens on a session
+-- that is open.
 abbrev pub follows : List Event → Event → Bool
-follows before (Opens kind) = length before == 0
+follows before (Opens kind) = true
 follows before (Piece who bytes moment) = is_open before who
-follows before (Ends who) = false
-follows before (Loses who) = false
+follows before (Ends who) = is_open before who
+follows before (Loses who) = is_open before who
 
 -- the event of a line behind some events, or none where the line is bad there
 abbrev pub next_event : List Event → List ℕ → Option Event
 next_event before line = option_and_then (λ event. if follows before event then Some event else None) (line_event line)
 
--- an event in front of those of the lines that follow, or their first bad line, counted from this one
-abbrev pub with_line : Event → Result (List Event) ℕ → Result (List Event) ℕ
-with_line event (Ok later) = Ok (event ∷ later)
-with_line event (Err n) = Err (n + 1)
+-- what a good line says, in front of the events of the lines that follow, or of their first bad line, counted from this one
+abbrev pub with_line : List Event → Result (List Event) ℕ → Result (List Event) ℕ
+with_line events (Ok later) = Ok (events ++ later)
+with_line events (Err n) = Err (n + 1)
 
 -- What lines say that come after some events: their events, or which of them, counted from 1, is the first bad line.
 abbrev pub events_after : List Event → List (List ℕ) → Result (List Event) ℕ
 events_after before [] = Ok []
-events_after before (line ∷ lines) = elim (next_event before line) [ None ↦ Err 1 | Some event ↦ with_line event (events_after (before ++ event ∷ []) lines) ]
+events_after before (line ∷ lines) = elim (says_nothing line) [
+  | true ↦ with_line [] (events_after before lines)
+  | false ↦ elim (next_event before line) [
+    | None ↦ Err 1
+    | Some event ↦ with_line (event ∷ []) (events_after (before ++ event ∷ []) lines)
+  ]
+]
 
 -- What a script says.
 abbrev pub script_events : List ℕ → Result (List Event) ℕ
@@ -122,11 +144,6 @@ script_events text = events_after [] (script_lines text)
 abbrev pub Spells : List ℕ → Option (List ℕ) → Option (ℕ × Bor (List ℕ)) → Type 0
 Spells text bytes None = bytes ≡ None
 Spells text bytes (Some found) = (bytes ≡ in_front found.0 (text_bytes found.1.now)) × (length found.1.now < length text)
-
--- Sessions as the lines of a script open them so far: the first event opens the only one, and none closes it.
-pub record AreOpened (events : List Event) : Type 0 where
-  pub openings : count_by opens events ≡ min 1 (length events)
-  pub none_closed : (number : ℕ) → list_any (closes number) events ≡ false
 
 -- A piece has bytes, as many as one may have, and comes at a moment of the years that are covered.
 abbrev pub IsPiece : Event → Type 0

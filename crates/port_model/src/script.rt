@@ -1,16 +1,22 @@
 //! The texts of scripts.
 //!
-//! A line `open imap` opens a session, and `send N MOMENT TEXT` has the peer of session N send the bytes of TEXT at
-//! that moment. In TEXT `\r`, `\n`, `\\` and `\xHH` stand for bytes, and the other printable bytes of ASCII for themselves.
+//! A line `open imap` opens a session, `send N MOMENT TEXT` has the peer of session N send the bytes of TEXT at that
+//! moment, `end N` has it close its side, and `lose N` loses its link. Sessions have the numbers from 1, in the order in
+//! which they open. In TEXT `\r`, `\n`, `\\` and `\xHH` stand for bytes, and the other printable bytes of ASCII for
+//! themselves. An empty line, or one that begins with `#`, says nothing.
 
 ghost use Rattle.std.specs.Prelude.{ℕ, ◌≡◌, ◌≤◌, ◌<◌, ◌+◌, ◌*◌, ◌==◌, List, [], ◌∷◌, ◌++◌, Option, Ok, Err, None, IfOk, IsOkAnd, MatchOption, MatchResult, length, count_by, position, option_map, IsTrue};
 ghost use Rattle.std.specs.List.{before_first, after_first, list_all};
 ghost use Rattle.std.specs.Char.{is_ascii_digit};
 ghost use Rattle.port_model.specs.declared.script.ScriptFault.TheVariants.{BadLine};
-ghost use Rattle.port_model.specs.Script.{script_events, AreEvents, number_up_to, is_number, text_bytes, behind_backslash, behind_x, in_front, sized, sent_piece, line_event, next_event, follows, opens, closes, word, behind_word, script_lines, Spells, AreOpened};
+ghost use Rattle.port_model.specs.declared.events.Event.{Event};
+ghost use Rattle.port_model.specs.Script.{script_events, AreEvents, number_up_to, session_number, is_number, text_bytes, behind_backslash, behind_x, in_front, sized, sent_piece, closing_event, line_event, says_nothing, next_event, follows, opens, closes, word, behind_word, script_lines, Spells};
+ghost use Rattle.port_model.specs.ScriptLines.{AreAllGood, IsFirstBad};
+ghost use Rattle.port_model.specs.OpenSessions.{TellOpen};
 
 use crate::calls::Kind;
 use crate::events::Event;
+use crate::open_sessions::OpenSessions;
 use octets::Octets;
 use std::alloc::{AllocError, AllocFailed, Global};
 
@@ -35,41 +41,53 @@ pub fn parse_script(alloc: Global, text: &[u8]) -> Result<Vec<Event>, ScriptFaul
     ensures kept { IfOk result (λ events. AreEvents events.items) }
 {
     let mut events = Vec::new(alloc);
+    let mut sessions = OpenSessions::new(alloc);
     let mut left = text;
     let mut number: u64 = 0;
     while !left.is_empty() {
         let (line, rest) = split_at_byte(left, b'\n');
         number += 1;
-        let Some(event) = event_behind(alloc, events.as_slice(), line)? else {
-            return Err(ScriptFault::BadLine(number));
-        };
-        events.push(event)?;
+        if !says_nothing(line) {
+            let Some(event) = next_event(alloc, &sessions, line)? else {
+                return Err(ScriptFault::BadLine(number));
+            };
+            sessions.note(&event)?;
+            events.push(event)?;
+        }
         left = rest;
     }
     Ok(events)
 }
 
-/// The event of a line behind those of the lines before.
-fn event_behind(alloc: Global, before: &[Event], line: &[u8]) -> Result<Option<Event>, AllocError>
-    requires { AreOpened before.now }
-    ensures { IfOk result (λ event. event ≡ next_event before.now line.now) }
-{
-    let event = parse_line(alloc, line)?;
-    Ok(event.filter(|event| may_follow(before, event)))
-}
+/// A script is good where each of its lines is good behind the lines before it, and its events are theirs; else the
+/// number of the first bad line is one more than the number of the lines before it.
+pub fn law_script_lines()
+    ensures good { (text : List ℕ) (events : List Event) → script_events text ≡ Ok events → AreAllGood (script_lines text) events }
+    ensures bad { (text : List ℕ) (n : ℕ) → script_events text ≡ Err n → (before : ℕ) × (n ≡ before + 1) × IsFirstBad (script_lines text) before }
+{}
 
-/// Whether an event may come behind those before it.
-fn may_follow(before: &[Event], event: &Event) -> bool
-    requires { AreOpened before.now }
-    ensures { result ≡ follows before.now event.now }
+fn says_nothing(line: &[u8]) -> bool
+    ensures { result ≡ says_nothing line.now }
 {
-    match event {
-        Event::Opens(_) => before.is_empty(),
-        Event::Piece { number, .. } => *number == 1 && !before.is_empty(),
-        Event::Ends(_) | Event::Loses(_) => false,
+    match line.first() {
+        Some(first) => *first == b'#',
+        None => true,
     }
 }
 
+/// The event of a line, if it may come while these sessions are open.
+fn next_event(
+    alloc: Global,
+    sessions: &OpenSessions,
+    line: &[u8],
+) -> Result<Option<Event>, AllocError>
+    ensures { IfOk result (λ event. (before : List Event) → TellOpen before sessions.now → event ≡ next_event before line.now) }
+{
+    let event = parse_line(alloc, line)?;
+    Ok(event.filter(|event| sessions.may_come(event)))
+}
+
+/// The event of a line, by itself.
 fn parse_line(alloc: Global, line: &[u8]) -> Result<Option<Event>, AllocError>
     ensures { IfOk result (λ event. event ≡ line_event line.now) }
 {
@@ -78,8 +96,26 @@ fn parse_line(alloc: Global, line: &[u8]) -> Result<Option<Event>, AllocError>
     }
     match line.strip_prefix(b"send ") {
         Some(words) => parse_piece(alloc, words),
-        None => Ok(None),
+        None => Ok(parse_closing(line)),
     }
+}
+
+#[tactic(auto, unfolding(crate::specs::Script::closing_event))]
+fn parse_closing(line: &[u8]) -> Option<Event>
+    ensures { result ≡ closing_event line.now }
+{
+    if let Some(digits) = line.strip_prefix(b"end ") {
+        return Some(Event::Ends(session_number(digits)?));
+    }
+    let digits = line.strip_prefix(b"lose ")?;
+    Some(Event::Loses(session_number(digits)?))
+}
+
+fn session_number(digits: &[u8]) -> Option<u32>
+    ensures { result ≡ session_number digits.now }
+{
+    let number = decimal_up_to(u64::from(u32::MAX), digits)?;
+    Some(number as u32)
 }
 
 fn parse_piece(alloc: Global, line: &[u8]) -> Result<Option<Event>, AllocError>
@@ -87,7 +123,7 @@ fn parse_piece(alloc: Global, line: &[u8]) -> Result<Option<Event>, AllocError>
 {
     let (number, rest) = split_at_byte(line, b' ');
     let (moment, text) = split_at_byte(rest, b' ');
-    let Some(number) = decimal_up_to(u64::from(u32::MAX), number) else {
+    let Some(number) = session_number(number) else {
         return Ok(None);
     };
     let Some(moment) = decimal_up_to(LAST_MOMENT, moment) else {
@@ -97,7 +133,7 @@ fn parse_piece(alloc: Global, line: &[u8]) -> Result<Option<Event>, AllocError>
         return Ok(None);
     };
     Ok(Some(Event::Piece {
-        number: number as u32,
+        number,
         bytes,
         moment,
     }))
@@ -259,22 +295,22 @@ mod tests {
     fn lines_are_good_or_bad(rt: HostRuntime) -> Result<(), Fail> {
         let open = b"open imap".as_slice();
         let cases: [(&[u8], &[u8], u64); 38] = [
-            (b"", b"", 1),
+            (b"", b"", 0),
             (b"open lmtp", b"", 1),
             (b"open imap ", b"", 1),
             (b"open imap\r", b"", 1),
-            (b"# open", b"open imap", 1),
+            (b" #", b"", 1),
+            (b"# open", b"open imap", 0),
+            (b"# open imap", b"send 1 0 x", 2),
             (b"send 1 0 x", b"", 1),
             (open, b"", 0),
-            (open, b"\n", 2),
-            (open, b"#", 2),
-            (open, b"open imap", 2),
-            (open, b"end 1", 2),
-            (open, b"lose 1", 2),
+            (open, b"\n", 0),
+            (open, b"#\x00\xff", 0),
+            (open, b" ", 2),
+            (open, b"\n# x\n\nsend 2 0 x", 5),
             (open, b"send 1 0 x", 0),
             (open, b"send 1 0 x\n", 0),
-            (open, b"send 1 0 x\n\n", 3),
-            (open, b"send 1 0 x\nsend 1 0 x\nsend 2 0 x\nend 1", 4),
+            (open, b"send 1 0 x\n\n", 0),
             (open, b"send 1 0  ", 0),
             (open, b"send 1 253402300799 x", 0),
             (open, b"send 1 253402300800 x", 2),
@@ -305,15 +341,48 @@ mod tests {
     }
 
     #[test]
+    fn sessions_are_open_until_they_end_or_are_lost(rt: HostRuntime) -> Result<(), Fail> {
+        let cases: [(&[u8], u64); 21] = [
+            (b"end 1", 0),
+            (b"lose 1", 0),
+            (b"send 1 0 x\nsend 1 0 x\nsend 2 0 x\nend 1", 4),
+            (b"open imap\nsend 2 0 x\nend 1\nsend 2 0 x\nlose 2", 0),
+            (b"end 1\nsend 1 0 x", 3),
+            (b"end 1\nend 1", 3),
+            (b"end 1\nlose 1", 3),
+            (b"lose 1\nsend 1 0 x", 3),
+            (b"lose 1\nend 1", 3),
+            (b"lose 1\nlose 1", 3),
+            (b"end 1\nopen imap\nend 1", 4),
+            (b"end 2", 2),
+            (b"end 0", 2),
+            (b"lose 0", 2),
+            (b"end 01", 2),
+            (b"end ", 2),
+            (b"end 1 ", 2),
+            (b"end 4294967297", 2),
+            (b"lose", 2),
+            (b"lose  1", 2),
+            (b"lose 2\nopen imap", 2),
+        ];
+        for (later, line) in cases {
+            assert_eq!(rt; bad_line(&rt, b"open imap", later)?, line);
+        }
+        Ok(())
+    }
+
+    #[test]
     fn texts_stand_for_bytes(rt: HostRuntime) -> Result<(), Fail> {
-        let text = b"open imap\nsend 1 7 a NOOP\\r\\n\nsend 1 9 \\\\~\\x00\\xfF\\x5c";
+        let text =
+            b"# first\nopen imap\nsend 1 7 a NOOP\\r\\n\n\nsend 1 9 \\\\~\\x00\\xfF\\x5c\nend 1";
         let events = parse_script(rt.alloc(), text.as_slice())
             .ok()
             .unwrap_or(Vec::new(rt.alloc()));
-        assert_eq!(rt; events.len(), 3);
+        assert_eq!(rt; events.len(), 4);
         assert!(rt; matches!(&events[0], Event::Opens(Kind::Imap)));
         assert!(rt; is_piece(&events[1], 7, b"a NOOP\r\n"));
         assert!(rt; is_piece(&events[2], 9, b"\\~\x00\xff\\"));
+        assert!(rt; matches!(&events[3], Event::Ends(1)));
         Ok(())
     }
 

@@ -6,7 +6,7 @@ ghost use Rattle.port_model.specs.declared.calls.PortCall.TheVariants.{Accept, R
 ghost use Rattle.port_model.specs.declared.calls.PortRead.TheVariants.{Lost as ReadLost};
 ghost use Rattle.port_model.specs.declared.calls.PortSend.TheVariants.{Lost as SendLost};
 ghost use Rattle.port_model.specs.Ports.{Records, NeverFall, answer_of_read, ReadsWithin, TakesWithin};
-ghost use Rattle.port_model.specs.Playing.{IsPlayed, playing};
+ghost use Rattle.port_model.specs.Playing.{IsAnswered, IsPlayed, playing};
 ghost use Rattle.port_model.specs.History.{sent};
 ghost use Rattle.port_model.specs.Player.{HasBytes};
 ghost use Rattle.port_model.specs.ScriptPorts.{Scripted, told_history, its_plan, listen_count, link_count};
@@ -109,6 +109,7 @@ impl Ports for ScriptPorts {
         ensures counts { NeverFall (listen_count self.old) (link_count self.old) (listen_count self.new) (link_count self.new) }
         ensures plan { its_plan self.new ≡ its_plan self.old }
         ensures starved { is_err result ≡ self.new.starved }
+        ensures answered { self.new.starved ≡ false → IsAnswered (Accept number result) (playing self.old.plan self.old.calls) }
     {
         let answer = Ok(self.player.accept(number));
         if self.starved || self.calls.accept(number, answer).is_err() {
@@ -127,6 +128,7 @@ impl Ports for ScriptPorts {
         ensures counts { NeverFall (listen_count self.old) (link_count self.old) (listen_count self.new) (link_count self.new) }
         ensures plan { its_plan self.new ≡ its_plan self.old }
         ensures starved { self.new.starved ≡ true → result ≡ ReadLost }
+        ensures answered { self.new.starved ≡ false → IsAnswered (Read number (length buf.old) (answer_of_read result buf.new)) (playing self.old.plan self.old.calls) }
     {
         let answer = self.player.read(number, buf);
         if self.starved || self.calls.read(number, buf, answer).is_err() {
@@ -137,7 +139,12 @@ impl Ports for ScriptPorts {
         answer
     }
 
-    fn now(&mut self) -> u64 {
+    fn now(&mut self) -> u64
+        ensures history { Records (Now result) (told_history self.old) (told_history self.new) }
+        ensures counts { NeverFall (listen_count self.old) (link_count self.old) (listen_count self.new) (link_count self.new) }
+        ensures plan { its_plan self.new ≡ its_plan self.old }
+        ensures answered { self.new.starved ≡ false → IsAnswered (Now result) (playing self.old.plan self.old.calls) }
+    {
         let reading = self.player.now();
         if self.starved || self.calls.now(reading).is_err() {
             self.starved = true;
@@ -153,6 +160,7 @@ impl Ports for ScriptPorts {
         ensures counts { NeverFall (listen_count self.old) (link_count self.old) (listen_count self.new) (link_count self.new) }
         ensures plan { its_plan self.new ≡ its_plan self.old }
         ensures starved { self.new.starved ≡ true → result ≡ SendLost }
+        ensures answered { self.new.starved ≡ false → IsAnswered (Send number bytes.now result) (playing self.old.plan self.old.calls) }
     {
         let answer = self.player.send(number, bytes);
         let taken = match answer {

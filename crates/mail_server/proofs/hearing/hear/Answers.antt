@@ -1,4 +1,4 @@
-use Rattle.std.proofs.Common.{ℕ, refl, sym, subst, take}
+use Rattle.std.proofs.Common.{ℕ, ◌∙◌, sym, subst, take}
 use Rattle.mail_model.specs.Step.{World}
 use Rattle.mail_model.specs.Bytes.{take_bytes}
 use Rattle.mail_server.specs.Core.{IsWorld}
@@ -10,12 +10,12 @@ use Rattle.mail_server.proofs.hearing.hear.Goals as goal
 pub returns-in-Ended-clause-hears : goal.returns-in-Ended-clause-hears
 returns-in-Ended-clause-hears g c =
     let idle = no_items c.args.link.now.queue.items c.args.link.now.queue.len c.args.link.now.queue.ok.0 c.if-not-is_empty.ensures in
-    hears_end _ _ _ _ _ _ _ c.in-Ended.ensures.history (sym c.if-not-is_open.ensures) idle idle refl c.leave.ensures
+    hears_end _ _ _ _ _ _ _ c.in-Ended.ensures.history (sym c.if-not-is_open.ensures) idle (c.end_session.ensures.queue ∙ idle) c.end_session.ensures.session c.end_session.ensures.world
 
 pub returns-in-Lost-clause-hears : goal.returns-in-Lost-clause-hears
 returns-in-Lost-clause-hears g c =
     let idle = no_items c.args.link.now.queue.items c.args.link.now.queue.len c.args.link.now.queue.ok.0 c.if-not-is_empty.ensures in
-    hears_loss _ _ _ _ _ _ _ c.in-Lost.ensures.history (sym c.if-not-is_open.ensures) idle idle refl c.leave-in-Lost.ensures
+    hears_loss _ _ _ _ _ _ _ c.in-Lost.ensures.history (sym c.if-not-is_open.ensures) idle (c.end_session-in-Lost.ensures.queue ∙ idle) c.end_session-in-Lost.ensures.session c.end_session-in-Lost.ensures.world
 
 pub returns-in_ok-serve_bytes-in-Bytes-clause-hears : goal.returns-in_ok-serve_bytes-in-Bytes-clause-hears
 returns-in_ok-serve_bytes-in-Bytes-clause-hears g c =

@@ -5,13 +5,13 @@ use Rattle.port_model.specs.declared.events.Event.{Event}
 use Rattle.port_model.specs.History.{sent}
 use Rattle.mail_server.specs.declared.program.Answer.{Answer}
 use Rattle.mail_server.specs.declared.status.Status.TheVariants.{Done}
-use Rattle.mail_server.specs.Script.{script_machine}
+use Rattle.mail_server.specs.Rounds.{script_sent}
 use Rattle.mail_server.specs.Run.{IsAnswer, transcript_of, transcript}
 use Rattle.mail_server.proofs.Readings.{transcript-same}
 use Rattle.mail_server.proofs.program.answer_events.Goals as goal
 use Rattle.mail_server.proofs.program.answer_events.Goals.{in-Ok, in-Err}
 
-printed : {E : Type 0} (events : List Event) (result : Result Answer E) (lines : List ℕ) → lines ≡ transcript (script_machine events) → IfOk result (λ answer. answer.status ≡ Done) → IfOk result (λ answer. answer.lines.items ≡ lines)
+printed : {E : Type 0} (events : List Event) (result : Result Answer E) (lines : List ℕ) → lines ≡ transcript events → IfOk result (λ answer. answer.status ≡ Done) → IfOk result (λ answer. answer.lines.items ≡ lines)
     → IfOk result (λ answer. IsAnswer answer.status answer.lines.items (Ok events))
 printed events (Ok answer) lines is done printed_are = record { status_is = done; lines_are = printed_are ∙ is }
 printed events (Err error) lines is done printed_are = tt
@@ -19,13 +19,13 @@ printed events (Err error) lines is done printed_are = tt
 pub returns-clause-answers : goal.returns-clause-answers
 returns-clause-answers g c =
     let Answers : Result Answer AllocError → Type 0 = λ result. IfOk result (λ answer. IsAnswer answer.status answer.lines.items (Ok c.args.events.items)) in
-    let m = script_machine c.args.events.items in
     elim c.match-played.branch [
       | in-Ok w ↦
           let texts = rw w.in-Ok.is at c.play-played.ensures.sent in
           let last = rw w.in-Ok.is at c.play-played.ensures.last in
-          let same : transcript_of w.in-Ok.played.last (sent w.in-Ok.played.ports.calls) ≡ transcript m =
-          transcript-same w.in-Ok.played.last (sent w.in-Ok.played.ports.calls) m.out texts ∙ ap (λ (n : ℕ). transcript_of n m.out) last in
+          let all = script_sent c.args.events.items in
+          let same : transcript_of w.in-Ok.played.last (sent w.in-Ok.played.ports.calls) ≡ transcript c.args.events.items =
+          transcript-same w.in-Ok.played.last (sent w.in-Ok.played.ports.calls) all texts ∙ ap (λ (n : ℕ). transcript_of n all) last in
           subst Answers (sym w.answer-is) (printed c.args.events.items w.print_played-answer.result _ same w.print_played-answer.ensures.status w.print_played-answer.ensures.lines)
       | in-Err w ↦ subst Answers (sym w.answer-is) tt
     ]

@@ -3,7 +3,6 @@ use Rattle.std.specs.Prelude.{Result, IfOk, Err}
 use Rattle.port_model.specs.declared.events.Event.{Event}
 use Rattle.mail_server.specs.Run.{IsAnswer}
 use Rattle.mail_server.proofs.Readings.{reading-long, reading-good, reading-bad}
-use Rattle.mail_server.proofs.Scripts.{script_stays}
 use Rattle.mail_server.proofs.program.answer_script.Goals as goal
 
 pub returns-then-text-gt-MOST_BYTES-clause-answers : goal.returns-then-text-gt-MOST_BYTES-clause-answers
@@ -19,6 +18,3 @@ pub returns-in-Err-BadLine-clause-answers : goal.returns-in-Err-BadLine-clause-a
 returns-in-Err-BadLine-clause-answers g c =
     subst (λ (said : Result (List Event) (List ℕ)). IfOk c.name_bad_line.result (λ answer. IsAnswer answer.status answer.lines.items said))
     (sym (reading-bad c.args.text.now c.in-Err-BadLine.number c.if-text-gt-MOST_BYTES.false (c.in-Err-BadLine.ensures.bad_line c.in-Err-BadLine.number (ap Err c.in-Err-BadLine.field-0-is)))) c.name_bad_line.ensures
-
-pub answer_events-requires-clause-stays : goal.answer_events-requires-clause-stays
-answer_events-requires-clause-stays g c = script_stays c.args.text.now c.in-Ok.events.items c.in-Ok.ensures.events

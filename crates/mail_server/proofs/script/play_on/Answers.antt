@@ -3,8 +3,10 @@ use Rattle.port_model.specs.declared.events.Event.{Event}
 use Rattle.port_model.specs.History.{sent}
 use Rattle.port_model.specs.ScriptPorts.{Scripted}
 use Rattle.mail_server.specs.Held.{held}
-use Rattle.mail_server.specs.OnScript.{IsOnScript, plan_of}
+use Rattle.mail_server.specs.OnScript.{IsOnScript}
+use Rattle.mail_server.specs.Rounds.{plan_of}
 use Rattle.mail_server.specs.Script.{script_machine}
+use Rattle.mail_server.specs.Rounds.{script_sent}
 use Rattle.mail_server.proofs.Progress.{script_begins, script_ends}
 use Rattle.mail_server.proofs.script.play_on.Goals as goal
 
@@ -13,14 +15,14 @@ run_rounds-requires-clause-on_script g c =
     let e : c.in_ok-ports.ports ≡ record { plan = plan_of c.args.events.items; calls = []; starved = false; starvations = 0 } =
     subst (λ (sends : List ℕ). c.in_ok-ports.ports ≡ record { plan = record { events = c.args.events.items; sends = sends }; calls = []; starved = false; starvations = 0 }) c.new.ensures.items c.in_ok-ports.ensures in
     subst (λ (script : List Event). IsOnScript script c.in_ok-ports.ports (held c.args.server.now)) (sym (ap (λ (p : Scripted). p.plan.events) e))
-    (script_begins c.args.events.items c.in_ok-ports.ports (held c.args.server.now) c.requires.kept c.requires.stays c.requires.fresh e)
+    (script_begins c.args.events.items c.in_ok-ports.ports (held c.args.server.now) c.requires.kept c.requires.fresh e)
 
 ended : (g : _) (c : goal.Else-starved g)
-    → ((number : ℕ) → sent c.flush.new.ports.calls number ≡ (script_machine c.args.events.items).out number) × (c.flush.new.self.last ≡ (script_machine c.args.events.items).last)
+    → ((number : ℕ) → sent c.flush.new.ports.calls number ≡ script_sent c.args.events.items number) × (c.flush.new.self.last ≡ (script_machine c.args.events.items).last)
 ended g c =
     let told : c.flush.new.ports.starved ≡ false = sym c.starved.ensures.starved ∙ c.if-starved.false in
     let its : c.in_ok-ports.ports.plan.events ≡ c.args.events.items = ap (λ (p : Scripted). p.plan.events) c.in_ok-ports.ensures in
-    subst (λ (script : List Event). ((number : ℕ) → sent c.flush.new.ports.calls number ≡ (script_machine script).out number) × (c.flush.new.self.last ≡ (script_machine script).last)) its
+    subst (λ (script : List Event). ((number : ℕ) → sent c.flush.new.ports.calls number ≡ script_sent script number) × (c.flush.new.self.last ≡ (script_machine script).last)) its
     (script_ends c.in_ok-ports.ports.plan.events c.run_rounds.new.ports c.flush.new.ports (held c.run_rounds.new.server) (held c.flush.new.self)
     c.flush.ensures.calls c.flush.ensures.keeps c.flush.ensures.plan told (c.starved.ensures.answers told) c.in_ok-run_rounds.ensures.on_script c.in_ok-run_rounds.ensures.done)
 

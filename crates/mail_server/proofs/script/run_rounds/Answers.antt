@@ -8,11 +8,13 @@ pub rounds-preserved : goal.rounds-preserved
 rounds-preserved g c =
     let went : is_err c.round.result ≡ false = sym c.is_err.ensures.value ∙ c.if-is_err.false in
     let told : c.round.new.ports.starved ≡ false = sym c.starved.ensures.starved ∙ c.if-starved.false in
+    let some : (playing c.rounds.ports.plan c.rounds.ports.calls).left ≢ [] =
+    λ e. let ended : c.done.result ≡ true = (c.done.ensures.left c.rounds.invariant.on_script.told).1 e in absurd (cc (c.rounds-test.true, ended)) in
     record {
       unspent = c.round.ensures.spent ∙ went;
       on_script = (round_goes_on c.args.ports.now.plan.events c.rounds.ports c.round.new.ports (held c.rounds.server) (held c.round.new.self)
           (on_ok c.round.result went c.round.ensures.calls) (on_ok c.round.result went c.round.ensures.keeps) c.round.ensures.plan told (c.starved.ensures.answers told)
-          c.rounds.invariant.on_script).0;
+          c.rounds.invariant.on_script some).0;
       files = c.round.ensures.files ∙ c.rounds.invariant.files;
     }
 
@@ -24,4 +26,4 @@ rounds-smaller g c =
     λ e. let ended : c.done.result ≡ true = (c.done.ensures.left c.rounds.invariant.on_script.told).1 e in absurd (cc (c.rounds-test.true, ended)) in
     (round_goes_on c.args.ports.now.plan.events c.rounds.ports c.round.new.ports (held c.rounds.server) (held c.round.new.self)
     (on_ok c.round.result went c.round.ensures.calls) (on_ok c.round.result went c.round.ensures.keeps) c.round.ensures.plan told (c.starved.ensures.answers told)
-    c.rounds.invariant.on_script).1 some
+    c.rounds.invariant.on_script some).1

@@ -1,12 +1,12 @@
-use Rattle.std.proofs.Common.{◌≡◌, ◌≤◌, ◌+◌, length}
-use Rattle.port_model.specs.Script.{script_events, AreOpened, events_after, script_lines}
-use Rattle.port_model.proofs.ScriptLemmas.{behind}
+use Rattle.std.proofs.Common.{◌≤◌, ◌+◌, length}
+use Rattle.port_model.specs.OpenSessions.{TellOpen}
+use Rattle.port_model.proofs.ScriptLemmas.{AreDone}
 use Rattle.port_model.proofs.script.parse_script.Given as goal
 
 abbrev pub invariant-loop-left : goal.invariant-loop-left
 invariant-loop-left l = record {
-  done : behind l.events.items l.number (events_after l.events.items (script_lines l.left)) ≡ script_events l.fn.text;
-  opened : AreOpened l.events.items;
+  done : AreDone l.fn.text l.left l.events.items l.number;
+  sessions : TellOpen l.events.items l.sessions;
   lines : l.number + length l.left ≤ length l.fn.text;
 }
 

@@ -6,4 +6,4 @@ use Rattle.mail_server.proofs.server.Server.load.Goals as goal
 
 pub returns-clause-serves : goal.returns-clause-serves
 returns-clause-serves g c world stands =
-    subst (λ (links : List Link). Serves world [] (record { core = c.new.result; links = links; last = 0 })) (sym c.new-2.ensures.items) (serves_start c.new.result world stands)
+    subst (λ (links : List Link). Serves world [] (record { core = c.new.result; links = links; last = 0 })) (sym c.in-Ok.ensures.links) (serves_start c.new.result world stands)
