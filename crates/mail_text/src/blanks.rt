@@ -27,7 +27,8 @@ pub fn trim_start(text: &[u8]) -> &[u8]
     &text[start..]
 }
 
-fn trim_end(text: &[u8]) -> &[u8]
+/// A text without the blanks at its end.
+pub fn trim_end(text: &[u8]) -> &[u8]
     ensures { result.now ≡ without_blank_end text.now }
 {
     let mut end = text.len();

@@ -6,7 +6,7 @@ mod letters;
 mod line_ends;
 mod numbers;
 
-pub use blanks::{is_blank, trim, trim_start};
+pub use blanks::{is_blank, trim, trim_end, trim_start};
 pub use letters::{lower, same};
 pub use line_ends::{crlf, law_lines, lines, split_crlf, split_line};
 pub use numbers::decimal;

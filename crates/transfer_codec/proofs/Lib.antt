@@ -1,0 +1,9 @@
+pub mod ScanLemmas
+pub mod LetterLemmas
+pub mod DecodeLemmas
+pub mod SymbolLemmas
+pub mod LineLemmas
+pub mod PrintLemmas
+pub mod QuotedLemmas
+pub mod JoinLemmas
+pub mod StandardLemmas
