@@ -1,0 +1,15 @@
+pub mod FrontLemmas
+pub mod WordLemmas
+pub mod DigitLemmas
+pub mod DayLemmas
+pub mod ReadingLemmas
+pub mod NameLemmas
+pub mod PartLemmas
+pub mod StampLemmas
+pub mod InstantLemmas
+pub mod AgainLemmas
+pub mod LawLemmas
+pub mod StampLaws
+pub mod UniqueLemmas
+pub mod CommentLemmas
+pub mod ValueLemmas

@@ -1,0 +1,10 @@
+pub mod Words
+pub mod Comments
+pub mod Names
+pub mod Calendar
+pub mod Scanning
+pub mod Parts
+pub mod Reading
+pub mod Printing
+pub mod Stamps
+pub mod Dates
