@@ -1,0 +1,13 @@
+pub mod Pieces
+pub mod Places
+pub mod Words
+pub mod Addresses
+pub mod Found
+pub mod Lists
+pub mod Steps
+pub mod Printing
+pub mod Ids
+pub mod Spelling
+pub mod Grammar
+pub mod IdGrammar
+pub mod Laws

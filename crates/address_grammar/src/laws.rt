@@ -1,0 +1,12 @@
+//! What was read and is printed is read as the same again, for the proofs of the crates above.
+ghost use Rattle.address_grammar.specs.Laws.{AddressLaws, IdLaws};
+
+/// Items that some value reads as, printed, are read as these items again.
+pub fn law_addresses()
+    ensures { AddressLaws }
+{}
+
+/// Ids that some value reads as, printed, are read as these ids again.
+pub fn law_ids()
+    ensures { IdLaws }
+{}
