@@ -43,7 +43,7 @@ find-between g p true h row miss xs =
 find-between g p false h row miss xs =
     find-behind g (filter p xs) (row ∷ filter (λ x. not (p x)) xs) (none-filter g p h xs) ∙ ap (λ c. cond c (Some row) (find g (filter (λ x. not (p x)) xs))) miss ∙ find-filter g (λ x. not (p x)) (λ x e. ap not (h x e)) xs
 
-split_last : {X : Type 0} (rows : List X) (l : X) → last_row rows ≡ Some l → (front : List X) × (rows ≡ front ++ l ∷ [])
+pub split_last : {X : Type 0} (rows : List X) (l : X) → last_row rows ≡ Some l → (front : List X) × (rows ≡ front ++ l ∷ [])
 split_last [] l e = cc
 split_last {X} (x ∷ []) l e = ([], by x l e)
   where

@@ -1,5 +1,5 @@
 -- A walk over the rows for a number that none has.
-use Rattle.std.proofs.Common.{◌≡◌, ◌≢◌, ℕ, ◌+◌, ◌<◌, ◌≤◌, Bool, true, false, not, cond, ◌||◌, ◌==◌, nat_lt, List, [], ◌∷◌, ◌++◌, length, length-append, inl, inr, refl, sym, ap, ◌∙◌, subst, arith}
+use Rattle.std.proofs.Common.{◌≡◌, ◌≢◌, ℕ, ◌+◌, ◌<◌, ◌≤◌, Bool, true, false, not, cond, ◌||◌, ◌==◌, nat_lt, List, [], ◌∷◌, length, inl, inr, refl, sym, ap, ◌∙◌, subst, arith}
 use mathlib.Core.Bool.{true≢false}
 use borrow.Author.Tests.{ltb-true, eqb-true, eq-eqb}
 use Rattle.std.proofs.lemmas.Bool.{cases_lt}
@@ -26,7 +26,7 @@ pub record IsWalk {X : Type 0} (key : X → RowKey) (start : ℕ) (rows left : L
   pub rest : (m : ℕ) → free ≤ m → list_any (has_number key m) rows ≡ list_any (has_number key m) left
   pub order : IsInOrder key left
 
-nat_Less : (a b : ℕ) → is_lt (nat_cmp a b) ≡ true → a < b
+pub nat_Less : (a b : ℕ) → is_lt (nat_cmp a b) ≡ true → a < b
 nat_Less a b e = by (nat_lt a b) (a == b) refl e
   where
     by : (s t : Bool) → nat_lt a b ≡ s → is_lt (cond s Less (cond t Equal Greater)) ≡ true → a < b
@@ -62,7 +62,7 @@ none_least : (text : List ℕ) → is_lt (slice_cmp nat_cmp text []) ≡ false
 none_least [] = refl
 none_least (x ∷ text) = refl
 
-below_number : (a : RowKey) (s : ℕ) → is_lt (key_cmp a (number_key s)) ≡ true → a.number < s
+pub below_number : (a : RowKey) (s : ℕ) → is_lt (key_cmp a (number_key s)) ≡ true → a.number < s
 below_number a s e =
     nat_Less a.number s
     (first_lt (nat_cmp a.number s) (slice_cmp nat_cmp a.text [])
@@ -73,12 +73,12 @@ below_number a s e =
     e (zero_least a.item)) (zero_least a.place)) (none_least a.third)) (none_least a.second)) (none_least a.text))
 
 -- a key below another has no greater number
-not_greater : (a b : RowKey) → key_cmp a b ≡ Less → b.number < a.number → ⊥
+pub not_greater : (a b : RowKey) → key_cmp a b ≡ Less → b.number < a.number → ⊥
 not_greater a b e lt =
     let g = nat_Greater a.number b.number lt in
     true≢false (sym (ap is_lt e) ∙ first_gt _ (nat_cmp a.item b.item) (still_gt _ (nat_cmp a.place b.place) (still_gt _ (slice_cmp nat_cmp a.third b.third) (still_gt _ (slice_cmp nat_cmp a.second b.second) (still_gt (nat_cmp a.number b.number) (slice_cmp nat_cmp a.text b.text) g)))))
 
-other_number : (a b : ℕ) → a ≢ b → (a == b) ≡ false
+pub other_number : (a b : ℕ) → a ≢ b → (a == b) ≡ false
 other_number a b n = by (a == b) refl
   where
     by : (t : Bool) → (a == b) ≡ t → t ≡ false

@@ -14,11 +14,22 @@ use Rattle.std.specs.List.{filter, find, AllByRecursion}
 use Rattle.std.specs.List.Sorted.{IsStrictlySortedBy}
 use Rattle.ordered_rows.specs.RowKey.{RowKey, same_group, first_key}
 use Rattle.ordered_rows.specs.Listed.{row_cmp, IsInOrder, is_below, rows_from, with_row, is_in_group, leading, placed}
-use Rattle.ordered_rows.proofs.Cuts.{AllAre, falls_cut, filter-keeps, filter-AllAre, AllAre-back, filter-failing}
+use Rattle.ordered_rows.proofs.Cuts.{AllAre, Falls, falls_cut, filter-keeps, filter-AllAre, AllAre-back, filter-failing}
 use Rattle.ordered_rows.proofs.AfterEdits.{none-filter}
 use Rattle.ordered_rows.proofs.Keys.{below_falls, find-behind, none-find, texts_total}
 
 -- ---- tests after an insertion
+
+-- two filters, one after the other, in either order
+filter-turned : {X : Type 0} (g p : X → Bool) (xs : List X) → filter g (filter p xs) ≡ filter p (filter g xs)
+filter-turned g p [] = refl
+filter-turned g p (x ∷ xs) = by (p x) (g x) refl refl (filter-turned g p xs)
+  where
+    by : (a b : Bool) → p x ≡ a → g x ≡ b → filter g (filter p xs) ≡ filter p (filter g xs) → filter g (cond a (x ∷ filter p xs) (filter p xs)) ≡ filter p (cond b (x ∷ filter g xs) (filter g xs))
+    by true true pe ge rest = ap (λ c. cond c (x ∷ filter g (filter p xs)) (filter g (filter p xs))) ge ∙ ap (λ l. x ∷ l) rest ∙ ap (λ c. cond c (x ∷ filter p (filter g xs)) (filter p (filter g xs))) (sym pe)
+    by true false pe ge rest = ap (λ c. cond c (x ∷ filter g (filter p xs)) (filter g (filter p xs))) ge ∙ rest
+    by false true pe ge rest = rest ∙ ap (λ c. cond c (x ∷ filter p (filter g xs)) (filter p (filter g xs))) (sym pe)
+    by false false pe ge rest = rest
 
 module _ {X : Type 0} (key : X → RowKey) (g : X → Bool) (row : X) (rows : List X) where
   abbrev p : X → Bool
@@ -38,9 +49,17 @@ module _ {X : Type 0} (key : X → RowKey) (g : X → Bool) (row : X) (rows : Li
   pub found_other : g row ≡ false → IsInOrder key rows → find g (with_row key row rows) ≡ find g rows
   found_other e order = find-skip (filter p rows) (filter q rows) e ∙ ap (find g) (sym (falls_cut p rows (below_falls key (key row) rows order)))
 
+  pub filtered_same : g row ≡ true → filter g (with_row key row rows) ≡ with_row key row (filter g rows)
+  filtered_same e =
+      filter-append g (filter p rows) (row ∷ filter q rows) ∙ ap (λ c. filter g (filter p rows) ++ cond c (row ∷ filter g (filter q rows)) (filter g (filter q rows))) e
+      ∙ ap (λ l. l ++ row ∷ filter g (filter q rows)) (filter-turned g p rows) ∙ ap (λ l. filter p (filter g rows) ++ row ∷ l) (filter-turned g q rows)
+
+  pub filtered_other : g row ≡ false → IsInOrder key rows → filter g (with_row key row rows) ≡ filter g rows
+  filtered_other e order =
+      filter-append g (filter p rows) (row ∷ filter q rows) ∙ ap (λ c. filter g (filter p rows) ++ cond c (row ∷ filter g (filter q rows)) (filter g (filter q rows))) e ∙ sym (filter-append g (filter p rows) (filter q rows)) ∙ ap (filter g) (sym (falls_cut p rows (below_falls key (key row) rows order)))
+
   pub numbers_other : (f : X → ℕ) → g row ≡ false → IsInOrder key rows → map f (filter g (with_row key row rows)) ≡ map f (filter g rows)
-  numbers_other f e order =
-      ap (map f) (filter-append g (filter p rows) (row ∷ filter q rows) ∙ ap (λ c. filter g (filter p rows) ++ cond c (row ∷ filter g (filter q rows)) (filter g (filter q rows))) e ∙ sym (filter-append g (filter p rows) (filter q rows)) ∙ ap (filter g) (sym (falls_cut p rows (below_falls key (key row) rows order))))
+  numbers_other f e order = ap (map f) (filtered_other e order)
 
 -- a filter by a test of the number of those that pass
 numbers_of : {X : Type 0} (f : X → ℕ) (g p : X → Bool) (t : ℕ → Bool) → ((x : X) → g x ≡ true → p x ≡ t (f x)) → (xs : List X) → map f (filter g (filter p xs)) ≡ filter t (map f (filter g xs))
@@ -108,6 +127,29 @@ zero_least n = by (nat_lt n 0) (n == 0) refl
 not_Greater : (r o : Ordering) → ordering_then r o ≡ Less → r ≡ Greater → ⊥
 not_Greater r o e g = true≢false (sym (ap is_lt e) ∙ ap (λ s. is_lt (ordering_then s o)) g)
 
+-- In a list in order, the rows that pass a test stand together, from the first that isn't before them.
+module _ {X : Type 0} (key : X → RowKey) (g before : X → Bool) (none_before : (x : X) → g x ≡ true → before x ≡ false)
+    (none_behind : (x y : X) → before x ≡ false → g x ≡ false → row_cmp key x y ≡ Less → g y ≡ false) where
+  none_later : (x : X) (xs : List X) → AllByRecursion (λ y. row_cmp key x y ≡ Less) xs → before x ≡ false → g x ≡ false → AllAre g false xs
+  none_later x [] h nb ng = tt
+  none_later x (y ∷ ys) h nb ng = (none_behind x y nb ng h.0, none_later x ys h.1 nb ng)
+
+  leading_is : (xs : List X) → IsInOrder key xs → AllAre before false xs → leading g xs ≡ filter g xs
+  unfolding IsStrictlySortedBy
+  leading_is [] s h = refl
+  leading_is (x ∷ xs) s h = by (g x) refl (leading_is xs s.1 h.1)
+    where
+      by : (b : Bool) → g x ≡ b → leading g xs ≡ filter g xs → cond b (x ∷ leading g xs) [] ≡ cond b (x ∷ filter g xs) (filter g xs)
+      by true e rest = ap (λ l. x ∷ l) rest
+      by false e rest = sym (filter-failing g xs (none_later x xs s.0 h.0 e))
+
+  pub leading_from : (rows : List X) → IsInOrder key rows → Falls before rows → leading g (filter (λ r. not (before r)) rows) ≡ filter g rows
+  leading_from rows order falls =
+      let q : X → Bool = λ r. not (before r) in
+      leading_is (filter q rows) (IsStrictlySortedBy-filter (row_cmp key) q rows order) (AllAre-back before (filter q rows) (filter-keeps q rows))
+      ∙ ap (λ l. l ++ filter g (filter q rows)) (sym (filter-failing g (filter before rows) (none-filter g before none_before rows)))
+      ∙ sym (filter-append g (filter before rows) (filter q rows)) ∙ ap (filter g) (sym (falls_cut before rows falls))
+
 module _ {X : Type 0} (key : X → RowKey) (k : RowKey) where
   abbrev g : X → Bool
   g = is_in_group key k
@@ -129,29 +171,14 @@ module _ {X : Type 0} (key : X → RowKey) (k : RowKey) where
       by Equal e = absurd (true≢false (sym (group_eq (key x) k ∙ ap is_eq e) ∙ ng))
       by Greater e = e
 
-  above_later : (x : X) (xs : List X) → AllByRecursion (λ y. row_cmp key x y ≡ Less) xs → group_cmp (key x) k ≡ Greater → AllAre g false xs
-  above_later x [] h e = tt
-  above_later x (y ∷ ys) h e = (by (g y) refl, above_later x ys h.1 e)
+  not_in_later : (x y : X) → first x ≡ false → g x ≡ false → row_cmp key x y ≡ Less → g y ≡ false
+  not_in_later x y nb ng less = by (g y) refl
     where
       by : (b : Bool) → g y ≡ b → g y ≡ false
       by false q = q
       by true q =
           let same : group_cmp (key y) k ≡ Equal = (Equal-is (group_cmp (key y) k)).0 (sym (group_eq (key y) k) ∙ q) in
-          absurd (not_Greater (group_cmp (key x) (key y)) (nat_cmp (key x).item (key y).item) h.0 (alike_right group_total (key y) k (key x) same ∙ e))
-
-  leading_group : (xs : List X) → IsInOrder key xs → AllAre first false xs → leading g xs ≡ filter g xs
-  unfolding IsStrictlySortedBy
-  leading_group [] s h = refl
-  leading_group (x ∷ xs) s h = by (g x) refl (leading_group xs s.1 h.1)
-    where
-      by : (b : Bool) → g x ≡ b → leading g xs ≡ filter g xs → cond b (x ∷ leading g xs) [] ≡ cond b (x ∷ filter g xs) (filter g xs)
-      by true e rest = ap (λ l. x ∷ l) rest
-      by false e rest = sym (filter-failing g xs (above_later x xs s.0 (is_above x h.0 e)))
+          absurd (not_Greater (group_cmp (key x) (key y)) (nat_cmp (key x).item (key y).item) less (alike_right group_total (key y) k (key x) same ∙ is_above x nb ng))
 
   pub group_is : (rows : List X) → IsInOrder key rows → leading g (rows_from key (first_key k) rows) ≡ filter g rows
-  group_is rows order =
-      let q : X → Bool = λ r. not (first r) in
-      let whole = falls_cut first rows (below_falls key (first_key k) rows order) in
-      leading_group (filter q rows) (IsStrictlySortedBy-filter (row_cmp key) q rows order) (AllAre-back first (filter q rows) (filter-keeps q rows))
-      ∙ ap (λ l. l ++ filter g (filter q rows)) (sym (filter-failing g (filter first rows) (none-filter g first in_group_not_below rows)))
-      ∙ sym (filter-append g (filter first rows) (filter q rows)) ∙ ap (filter g) (sym whole)
+  group_is rows order = leading_from key g first in_group_not_below not_in_later rows order (below_falls key (first_key k) rows order)

@@ -6,3 +6,4 @@ pub mod Edits
 pub mod AfterEdits
 pub mod Groups
 pub mod FreeNumbers
+pub mod Numbers

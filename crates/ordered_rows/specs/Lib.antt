@@ -1,3 +1,4 @@
 pub mod RowKey
 pub mod Listed
 pub mod Blocks
+pub mod InsertLaws

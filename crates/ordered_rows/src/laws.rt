@@ -3,15 +3,18 @@ ghost use Rattle.std.specs.Prelude.{◌≡◌, ◌++◌, ◌∷◌, [], List, So
 ghost use Rattle.std.specs.Ordering.{is_lt};
 ghost use Rattle.std.specs.List.{filter, find};
 ghost use Rattle.ordered_rows.specs.RowKey.{RowKey, key_cmp, number_key, same_key};
-ghost use Rattle.ordered_rows.specs.Listed.{IsInOrder, is_below, row_at, last_row, placed, with_row, with_replaced, without};
+ghost use Rattle.ordered_rows.specs.InsertLaws.{InsertLaws};
+ghost use Rattle.ordered_rows.specs.Listed.{IsInOrder, IsNewNumber, is_below, row_at, last_row, placed, with_row, with_replaced, without};
 
 use crate::key::Keyed;
 
-/// Keys that the test doesn't tell apart are the same, and numbers alone compare as numbers.
+/// Keys that the test doesn't tell apart are the same, and numbers alone compare as
+/// numbers, as do places where all else is the same.
 pub fn keys()
     ensures same { (a b : RowKey) → same_key a b ≡ true → a ≡ b }
     ensures itself { (a : RowKey) → same_key a a ≡ true }
     ensures numbers { (a b : ℕ) → is_lt (key_cmp (number_key a) (number_key b)) ≡ nat_lt a b }
+    ensures places { (k : RowKey) (a b : ℕ) → is_lt (key_cmp (record k { place = a }) (record k { place = b })) ≡ nat_lt a b }
 {}
 
 /// The row at the key of a row that was inserted, and at another key.
@@ -42,6 +45,17 @@ pub fn last_row_after_insert<R: Keyed>()
     ensures behind { (row last : R) (rows : List R) → IsInOrder R.key_of rows → last_row rows ≡ Some last
         → is_below R.key_of (R.key_of row) last ≡ true → with_row R.key_of row rows ≡ rows ++ row ∷ [] }
     ensures last { (row : R) (rows : List R) → last_row (rows ++ row ∷ []) ≡ Some row }
+{}
+
+/// What an insertion makes of a table, in one record.
+pub fn insertion<R: Keyed>()
+    ensures { InsertLaws R.key_of }
+{}
+
+/// No row has a new number.
+pub fn new_number<R: Keyed>()
+    ensures { (rows : List R) (n : ℕ) → IsInOrder R.key_of rows → IsNewNumber R.key_of rows n
+        → row_at R.key_of (number_key n) rows ≡ None }
 {}
 
 /// A row put in and taken out again leaves the table as it was.

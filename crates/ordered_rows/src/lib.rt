@@ -6,11 +6,13 @@ mod blocks;
 mod group;
 mod key;
 pub mod laws;
+mod numbered;
 mod rows;
 mod table;
 
 pub use group::Group;
 pub use key::{Key, Keyed};
+pub use numbered::Numbered;
 pub use rows::Rows;
 pub use table::Table;
 
@@ -91,6 +93,10 @@ mod tests {
             Some(151)
         );
         assert!(rt; table.rows_from(key(200, b"")).next().is_none());
+        let mut numbered = table.numbered(77);
+        assert_eq!(rt; numbered.next().map(|row| row.letter[0]), Some(b'a'));
+        assert_eq!(rt; numbered.next().map(|row| row.letter[0]), Some(b'b'));
+        assert!(rt; numbered.next().is_none());
         assert_eq!(rt; table.last().map(|row| row.number), Some(199));
         Ok(())
     }

@@ -3,11 +3,12 @@ ghost use Rattle.std.specs.Prelude.{◌≡◌, ◌<◌, ◌≤◌, ◌^◌, [], 
 ghost use Rattle.std.specs.Option.{option_copied};
 ghost use Rattle.std.specs.List.{filter};
 ghost use Rattle.ordered_rows.specs.RowKey.{row_key};
-ghost use Rattle.ordered_rows.specs.Listed.{IsInOrder, IsLeastFree, IsNewNumber, is_in_group, row_at, rows_from, last_row, with_row, with_replaced, without};
+ghost use Rattle.ordered_rows.specs.Listed.{IsInOrder, IsLeastFree, IsNewNumber, has_number, is_in_group, row_at, rows_from, last_row, with_row, with_replaced, without};
 
 use crate::blocks::{exchange, last_in, put, rest_in, row_in, take_out};
 use crate::group::Group;
 use crate::key::{Key, Keyed};
+use crate::numbered::Numbered;
 use crate::rows::Rows;
 use std::alloc::{AllocError, Global};
 use std::marker::Model;
@@ -96,6 +97,13 @@ impl<R: Keyed> Table<R> {
         ensures { result ≡ filter (is_in_group R.key_of (row_key key.entry)) self.now }
     {
         Group::of(self.rows_from(Key { item: 0, ..key }), key)
+    }
+
+    /// The rows whose keys have a number, whatever their other parts are.
+    pub fn numbered(&self, number: u64) -> Numbered<'_, R>
+        ensures { result ≡ filter (has_number R.key_of number) self.now }
+    {
+        Numbered::of(self.rows_from(Key::of_number(number)), number)
     }
 
     /// The number for a new row of a table whose keys have a number alone. Costs a look-up where the greatest number isn't the last

@@ -1,5 +1,5 @@
 -- Which changes fit, and what they make of the tables.
-use Rattle.std.specs.Prelude.{◌≡◌, ℕ, ◌<◌, ◌≤◌, List, [], ◌∷◌, length, None, IsSome}
+use Rattle.std.specs.Prelude.{◌≡◌, ℕ, ◌<◌, ◌≤◌, List, [], ◌∷◌, ◌++◌, length, None, IsSome}
 use Rattle.std.specs.List.{find}
 use Rattle.ordered_rows.specs.RowKey.{number_key}
 use Rattle.ordered_rows.specs.Listed.{row_at, with_row}
@@ -47,3 +47,11 @@ applied t (InsertHeaderField r) = record t { mails = record t.mails { header_fie
 abbrev pub Runs : TableRows → List RowChange → TableRows → Type 0
 Runs t [] after = t ≡ after
 Runs t (change ∷ changes) after = Fits t change × Runs (applied t change) changes after
+
+-- the changes fit one after another
+abbrev pub CanRun : TableRows → List RowChange → Type 0
+CanRun t changes = (after : TableRows) × Runs t changes after
+
+-- the first of the changes were made, and none or some were not
+abbrev pub RunsPart : TableRows → List RowChange → TableRows → Type 0
+RunsPart t changes after = (made : List RowChange) × (left : List RowChange) × (changes ≡ made ++ left) × Runs t made after

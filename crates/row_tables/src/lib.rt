@@ -6,6 +6,7 @@ mod body_ids;
 mod change;
 mod contents;
 mod indexes;
+pub mod laws;
 mod mails;
 mod shared;
 mod tables;

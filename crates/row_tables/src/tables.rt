@@ -6,17 +6,19 @@ ghost use Rattle.ordered_rows.specs.Listed.{IsInOrder, IsNewNumber, row_at, rows
 ghost use Rattle.row_tables.specs.Keys.{part_key, field_key, message_key, body_part_key, part_number_key, field_name_key, header_field_key};
 ghost use Rattle.row_tables.specs.TableRows.{no_rows};
 ghost use Rattle.row_tables.specs.Indexes.{field_name_id, body_ids};
-ghost use Rattle.row_tables.specs.Fits.{Fits, applied, IsText};
+ghost use Rattle.row_tables.specs.Fits.{CanRun, Fits, Runs, RunsPart, applied, IsText};
+ghost use Rattle.row_tables.specs.References.{AreClosed, AreOrdered, fields_of, parts_of};
 ghost use Rattle.row_tables.specs.declared.change.RowChange.TheVariants.{InsertPartNumber, InsertHeaderField};
 
 use crate::body_ids::BodyIds;
 use crate::change::RowChange;
 use crate::contents::{BodyPart, FieldName};
 use crate::indexes::{DigestEntry, NameEntry};
+use crate::laws::changes_keep_references;
 use crate::mails::{HeaderField, MessageRow, PartNumber};
 use crate::shared::{add_body_part, add_field_name};
 use octets::Octets;
-use ordered_rows::{Key, Rows, Table};
+use ordered_rows::{Key, Numbered, Rows, Table};
 use std::alloc::{AllocError, Global};
 use std::marker::Model;
 
@@ -37,6 +39,7 @@ pub struct Tables {
 impl Model for Tables {
     ghost use Rattle.row_tables.specs.TableRows.{TableRows};
     ghost use Rattle.row_tables.specs.Indexes.{AreNames, AreDigests};
+    ghost use Rattle.row_tables.specs.References.{AreClosed};
 
     ghost Value = { TableRows };
 
@@ -45,7 +48,10 @@ impl Model for Tables {
       shared = record { bodyparts = t.bodyparts; field_names = t.field_names };
     } };
 
-    ghost invariant = { λ t. AreNames t.names t.field_names × AreDigests t.digests t.bodyparts };
+    ghost invariant = { λ t. AreNames t.names t.field_names × AreDigests t.digests t.bodyparts × AreClosed (record {
+      mails = record { messages = t.messages; part_numbers = t.part_numbers; header_fields = t.header_fields };
+      shared = record { bodyparts = t.bodyparts; field_names = t.field_names };
+    }) };
 }
 
 // Whether a row may hold a text.
@@ -178,6 +184,33 @@ impl Tables {
         self.header_fields.rows_from(field(key.0, key.1, key.2))
     }
 
+    /// The parts of a message, in the order of their paths as texts.
+    pub fn part_numbers_of(&self, message: u64) -> Numbered<'_, PartNumber>
+        ensures { result ≡ parts_of message self.now.mails.part_numbers }
+    {
+        self.part_numbers.numbered(message)
+    }
+
+    /// The fields of a message and of its parts, in the order of the paths as texts and of the places.
+    pub fn header_fields_of(&self, message: u64) -> Numbered<'_, HeaderField>
+        ensures { result ≡ fields_of message self.now.mails.header_fields }
+    {
+        self.header_fields.numbered(message)
+    }
+
+    /// Each table is in order, and each row that a row refers to is there. For the proofs of callers; does nothing.
+    pub fn are_whole(&self)
+        ensures ordered { AreOrdered self.now }
+        ensures closed { AreClosed self.now }
+    {
+        let _ = &self.alloc;
+        let _ = self.messages_rows();
+        let _ = self.part_numbers_rows();
+        let _ = self.header_fields_rows();
+        let _ = self.bodyparts_rows();
+        let _ = self.field_names_rows();
+    }
+
     /// The id of the field name that is this text.
     pub fn field_name_id(&self, name: &[u8]) -> Option<u64>
         ensures { result ≡ field_name_id name.now self.now.shared.field_names }
@@ -247,6 +280,8 @@ impl Tables {
         ensures ok { OnOk result (self.new ≡ applied self.old change) }
         ensures err { OnErr result (self.new ≡ self.old) }
     {
+        self.are_whole();
+        changes_keep_references();
         match change {
             RowChange::InsertMessageRow(row) => self.messages.insert(row),
             RowChange::InsertBodyPart(row) => add_body_part(
@@ -260,6 +295,18 @@ impl Tables {
             }
             RowChange::InsertHeaderField(row) => self.header_fields.insert(row),
         }
+    }
+
+    /// Makes changes, one after another. Fails for want of memory alone, and has then made some of them, from the first on.
+    pub fn apply_all(&mut self, changes: Vec<RowChange>) -> Result<(), AllocError>
+        requires { CanRun self.old changes.items }
+        ensures ok { OnOk result (Runs self.old changes.items self.new) }
+        ensures err { OnErr result (RunsPart self.old changes.items self.new) }
+    {
+        for change in changes {
+            self.apply(change)?;
+        }
+        Ok(())
     }
 
     fn fits_part_number(&self, row: &PartNumber) -> bool
@@ -423,6 +470,15 @@ mod tests {
         assert_eq!(rt;
             tables.header_fields_rows().next().map(|row| row.name),
             Some(3)
+        );
+        tables.are_whole();
+        let mut fields = tables.header_fields_of(1);
+        assert_eq!(rt; fields.next().map(|row| row.name), Some(3));
+        assert!(rt; fields.next().is_none());
+        assert!(rt; tables.header_fields_of(2).next().is_none());
+        assert_eq!(rt;
+            tables.part_numbers_of(1).next().map(|row| row.kind),
+            Some(2)
         );
         Ok(())
     }

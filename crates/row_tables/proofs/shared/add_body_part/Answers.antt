@@ -1,4 +1,4 @@
-use Rattle.std.proofs.Common.{◌≡◌, sym, subst, refl}
+use Rattle.std.proofs.Common.{sym, subst, refl}
 use Rattle.ordered_rows.specs.Listed.{with_row}
 use Rattle.row_tables.specs.Indexes.{AreDigests}
 use Rattle.row_tables.specs.Keys.{digest_entry_key, body_part_key}

@@ -1,4 +1,4 @@
-use Rattle.std.proofs.Common.{◌≡◌, rules, sym, subst, refl}
+use Rattle.std.proofs.Common.{rules, sym, subst, refl}
 use Rattle.ordered_rows.specs.Listed.{with_row}
 use Rattle.row_tables.specs.Indexes.{AreNames}
 use Rattle.row_tables.specs.Keys.{name_entry_key, field_name_key}

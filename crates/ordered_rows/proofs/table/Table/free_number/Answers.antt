@@ -1,4 +1,4 @@
-use Rattle.std.proofs.Common.{◌≡◌, ◌<◌, ◌∷◌, sym, ap, ◌∙◌, subst, arith}
+use Rattle.std.proofs.Common.{◌≡◌, ◌<◌, sym, ap, ◌∙◌, subst, arith}
 use Rattle.ordered_rows.specs.RowKey.{RowKey}
 use Rattle.ordered_rows.proofs.FreeNumbers.{IsWalk, walk_start, walk_hit, walk_pass, walk_stop}
 use Rattle.ordered_rows.specs.Listed.{rows_from}
