@@ -1,0 +1,5 @@
+use Rattle.shredder.proofs.OtherMessages.{others_stay}
+use Rattle.shredder.proofs.laws.law_other_messages_stay.Goals as goal
+
+pub returns : goal.returns
+returns c = others_stay

@@ -1,0 +1,4 @@
+pub mod MessageRows
+pub mod Distinct
+pub mod Shredding
+pub mod Making
