@@ -1,6 +1,6 @@
 -- What the text of a script says, and the lines of its sessions.
-use Rattle.std.proofs.Common.{◌≡◌, ℕ, zero, suc, ◌+◌, ◌<◌, ◌≤◌, Bool, true, false, nat_lt, nat_le, List, [], ◌∷◌, ◌++◌, length, get_or, map, refl, sym, ◌∙◌, ap, arith, length-append, subst}
-use Rattle.std.specs.Prelude.{Option, Some, None, Result, Ok, Err, IfSome, codes, flat_map}
+use Rattle.std.proofs.Common.{◌≡◌, ℕ, zero, suc, ◌+◌, ◌<◌, ◌≤◌, Bool, true, false, cond, nat_lt, nat_le, List, [], ◌∷◌, ◌++◌, length, get_or, map, refl, sym, ◌∙◌, ap, arith, length-append, subst}
+use Rattle.std.specs.Prelude.{Option, Some, None, Result, Ok, Err, IfSome, flat_map}
 use Rattle.std.specs.List.{range_with_len}
 use Rattle.std.proofs.lemmas.List.{append-nil}
 use Rattle.std.proofs.lemmas.Grind.{flat_map-append}
@@ -8,37 +8,36 @@ use Rattle.std.proofs.lemmas.Bool.Decides.{nat_tests}
 use Rattle.port_model.specs.declared.events.Event.{Event}
 use Rattle.port_model.specs.Script.{script_events}
 use Rattle.port_model.specs.Transcript.{session_lines}
-use Rattle.mail_server.specs.Run.{ReadsUpTo, reading, most_bytes, bad_line, transcript_of, events_or_line, status_of_reading}
-use Rattle.mail_server.specs.declared.status.Status.TheVariants.{Done, BadScript}
+use Rattle.mime_tree.specs.Trees.{Tree}
+use Rattle.mime_tree.specs.declared.reasons.Reason.{Reason}
+use Rattle.header_reader.specs.Reading.{outcome}
+use Rattle.mail_server.specs.Run.{ReadsUpTo, End, limit_of, end_of, end_of_long, end_of_text, end_of_events, end_of_message, transcript_of}
+use Rattle.mail_server.specs.declared.words.Task.{Task}
+use Rattle.mail_server.specs.declared.words.Task.TheVariants.{Script, Canon}
+use Rattle.mail_server.specs.declared.status.Status.TheVariants.{Done, Usage, ReadFault, WriteFault}
 
-pub reading-long : (text : List ℕ) → most_bytes < length text → reading text ≡ Err (codes "bad script: too long\n")
-unfolding reading
-reading-long text le = let e : nat_lt most_bytes (length text) ≡ true = grind (arith, nat_tests) in rw e
+pub end-long : (task : Task) (text : List ℕ) → limit_of task < length text → end_of task text ≡ end_of_long task
+unfolding end_of
+end-long task text le = let e : nat_lt (limit_of task) (length text) ≡ true = grind (arith, nat_tests, le) in rw e refl
 
-reading-short : (text : List ℕ) → length text ≤ most_bytes → reading text ≡ events_or_line (script_events text)
-unfolding reading
-reading-short text le = let e : nat_lt most_bytes (length text) ≡ false = grind (arith, nat_tests) in rw e
+pub end-short : (task : Task) (text : List ℕ) → length text ≤ limit_of task → end_of task text ≡ end_of_text task text
+unfolding end_of
+end-short task text le = let e : nat_lt (limit_of task) (length text) ≡ false = grind (arith, nat_tests, le) in rw e refl
 
-pub reading-good : (text : List ℕ) (events : List Event) → length text ≤ most_bytes → script_events text ≡ Ok events → reading text ≡ Ok events
-reading-good text events le is = reading-short text le ∙ ap events_or_line is
-
-pub reading-bad : (text : List ℕ) (number : ℕ) → length text ≤ most_bytes → script_events text ≡ Err number → reading text ≡ Err (bad_line number)
-reading-bad text number le is = reading-short text le ∙ ap events_or_line is
-
--- what was read says what the whole text says
-pub reading-read : (text bytes : List ℕ) (new : Option (List ℕ)) → ReadsUpTo most_bytes bytes (Some text) new → reading bytes ≡ reading text
-reading-read text bytes None reads = absurd reads.taken
-reading-read text bytes (Some rest) reads = by_length (nat_le (length bytes) most_bytes) refl
+-- what was read ends a run as the whole text does
+pub end-read : (task : Task) (text bytes : List ℕ) (new : Option (List ℕ)) → ReadsUpTo (limit_of task) bytes (Some text) new → end_of task bytes ≡ end_of task text
+end-read task text bytes None reads = absurd reads.taken
+end-read task text bytes (Some rest) reads = by_length (nat_le (length bytes) (limit_of task)) refl
   where
-    by_length : (b : Bool) → nat_le (length bytes) most_bytes ≡ b → reading bytes ≡ reading text
+    by_length : (b : Bool) → nat_le (length bytes) (limit_of task) ≡ b → end_of task bytes ≡ end_of task text
     by_length true is =
-        let le : length bytes ≤ most_bytes = grind (arith, nat_tests) in
+        let le : length bytes ≤ limit_of task = grind (arith, nat_tests, is) in
         let e : rest ≡ [] = reads.to_end le in
         let same : text ≡ bytes = reads.taken ∙ ap (λ r. bytes ++ r) e ∙ append-nil bytes in
-        ap reading (sym same)
+        ap (end_of task) (sym same)
     by_length false is =
-        let gt : most_bytes < length bytes = grind (arith, nat_tests) in
-        reading-long bytes gt ∙ sym (reading-long text (omega (arith, ap length reads.taken, length-append bytes rest)))
+        let gt : limit_of task < length bytes = grind (arith, nat_tests, is) in
+        end-long task bytes gt ∙ sym (end-long task text (omega (arith, gt, ap length reads.taken, length-append bytes rest)))
 
 -- Numbers, and the lines of sessions by their numbers.
 
@@ -68,16 +67,43 @@ one-word f (w ∷ []) word some few is = ap (λ x. f x ∷ []) (sym is)
 one-word f (w ∷ v ∷ vs) word some few is = absurd (omega arith)
 
 -- What holds of what was read says of the whole text, where it is told.
-pub IfSome-read : (old new : Option (List ℕ)) (bytes : List ℕ) → ReadsUpTo most_bytes bytes old new → (P : Result (List Event) (List ℕ) → Type 0) → P (reading bytes) → IfSome old (λ text. P (reading text))
-IfSome-read None new bytes reads P fact = tt
-IfSome-read (Some text) new bytes reads P fact = subst P (reading-read text bytes new reads) fact
+pub IfSome-read : (task : Task) (limit : ℕ) (old new : Option (List ℕ)) (bytes : List ℕ) → limit ≡ limit_of task → ReadsUpTo limit bytes old new
+    → (P : End → Type 0) → P (end_of task bytes) → IfSome old (λ text. P (end_of task text))
+IfSome-read task limit None new bytes is reads P fact = tt
+IfSome-read task limit (Some text) new bytes is reads P fact = subst P (end-read task text bytes new (subst (λ (n : ℕ). ReadsUpTo n bytes (Some text) new) is reads)) fact
 
--- a script that is done isn't too long
-pub short-done : (bytes : List ℕ) → Done ≡ status_of_reading (reading bytes) → length bytes ≤ most_bytes
-short-done bytes done = by_length (nat_le (length bytes) most_bytes) refl
+-- a text by which a run is done isn't too long
+pub short-done : (task : Task) (bytes : List ℕ) → Done ≡ (end_of task bytes).status → length bytes ≤ limit_of task
+short-done task bytes done = by_length (nat_le (length bytes) (limit_of task)) refl
   where
-    by_length : (b : Bool) → nat_le (length bytes) most_bytes ≡ b → length bytes ≤ most_bytes
-    by_length true is = grind (arith, nat_tests)
+    long-isnt : (task : Task) → (end_of_long task).status ≡ Done → ⊥
+    long-isnt Script e = cc
+    long-isnt Canon e = cc
+
+    by_length : (b : Bool) → nat_le (length bytes) (limit_of task) ≡ b → length bytes ≤ limit_of task
+    by_length true is = grind (arith, nat_tests, is)
     by_length false is =
-        let gt : most_bytes < length bytes = grind (arith, nat_tests) in
-        let bad : Done ≡ BadScript = done ∙ ap status_of_reading (reading-long bytes gt) in cc
+        let gt : limit_of task < length bytes = grind (arith, nat_tests, is) in
+        absurd (long-isnt task (sym (done ∙ ap (λ (e : End). e.status) (end-long task bytes gt))))
+
+-- No text ends a run as if the words were bad or a call had failed.
+pub end-isnt : (task : Task) (text : List ℕ) → ((end_of task text).status ≡ Usage → ⊥) × ((end_of task text).status ≡ ReadFault → ⊥) × ((end_of task text).status ≡ WriteFault → ⊥)
+unfolding end_of
+end-isnt task text = by_length task (nat_lt (limit_of task) (length text))
+  where
+    Isnt : End → Type 0
+    Isnt end = (end.status ≡ Usage → ⊥) × (end.status ≡ ReadFault → ⊥) × (end.status ≡ WriteFault → ⊥)
+
+    of-events : (said : Result (List Event) ℕ) → Isnt (end_of_events said)
+    of-events (Ok events) = ((λ e. cc), (λ e. cc), (λ e. cc))
+    of-events (Err number) = ((λ e. cc), (λ e. cc), (λ e. cc))
+
+    of-message : (said : Result Tree Reason) → Isnt (end_of_message said)
+    of-message (Ok tree) = ((λ e. cc), (λ e. cc), (λ e. cc))
+    of-message (Err reason) = ((λ e. cc), (λ e. cc), (λ e. cc))
+
+    by_length : (task : Task) (long : Bool) → Isnt (cond long (end_of_long task) (end_of_text task text))
+    by_length Script true = ((λ e. cc), (λ e. cc), (λ e. cc))
+    by_length Canon true = ((λ e. cc), (λ e. cc), (λ e. cc))
+    by_length Script false = of-events (script_events text)
+    by_length Canon false = of-message (outcome text)

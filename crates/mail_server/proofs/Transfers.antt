@@ -5,7 +5,8 @@ use Rattle.std.proofs.lemmas.List.{append-nil, take_all, take_min}
 use Rattle.std.proofs.Math.Seq.{take-add}
 use Rattle.port_model.specs.Streams.{Appends}
 use Rattle.port_model.specs.Transcript.{Extends}
-use Rattle.mail_server.specs.Run.{HasRead, ReadsSome, WritesScript}
+use Rattle.mail_server.specs.Run.{HasRead, ReadsSome, WritesText}
+use Rattle.mail_server.specs.declared.words.Task.{Task}
 
 pub Appends-none : (old : Option (List ℕ)) → Appends [] old old
 Appends-none None = refl
@@ -61,6 +62,6 @@ pub OnErr-always : {T E : Type 0} (result : Result T E) (P : Type 0) → P → O
 OnErr-always (Ok value) P fact = tt
 OnErr-always (Err error) P fact = fact
 
-pub WritesScript-none : (text old : Option (List ℕ)) → WritesScript text old old
-WritesScript-none None old = record { bytes = []; appended = Appends-none old; front = tt }
-WritesScript-none (Some script) old = record { bytes = []; appended = Appends-none old; front = refl }
+pub WritesText-none : (task : Task) (text old : Option (List ℕ)) → WritesText task text old old
+WritesText-none task None old = record { bytes = []; appended = Appends-none old; front = tt }
+WritesText-none task (Some all) old = record { bytes = []; appended = Appends-none old; front = refl }

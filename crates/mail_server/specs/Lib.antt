@@ -7,4 +7,5 @@ pub mod Heard
 pub mod Script
 pub mod Rounds
 pub mod OnScript
+pub mod Words
 pub mod Run

@@ -1,6 +1,6 @@
 -- The calls that rounds make on the ports of a script, told by the machine: in each round every session is offered what
--- it was answered since, those whose session is over are closed, one new session is taken, and each open session is
--- asked once.
+-- it was answered since, those whose session is over are closed, one new session at most is taken, and each open session
+-- is asked once.
 use Rattle.std.specs.Prelude.{ℕ, zero, suc, ◌+◌, ◌-◌, ◌^◌, ◌==◌, ◌&&◌, ◌||◌, not, nat_eq, Bool, true, false, List, [], ◌∷◌, Ok, length, drop, filter, if◌then◌else◌}
 use Rattle.port_model.specs.declared.events.Event.{Event}
 use Rattle.port_model.specs.declared.events.Event.TheVariants.{Opens, Piece, Ends, Loses}
@@ -67,7 +67,7 @@ closes calls = for_each (λ session. and_close session.number (not (is_open sess
 unfoldable pub flush : List Event → List PortCall → List PortCall
 flush script calls = closes (offers script calls)
 
--- one new session is taken while numbers last, and each session that was open before and has nothing unsent is asked
+-- one new session at most is taken, while numbers last, and each session that was open before and has nothing unsent is asked
 unfoldable pub take : List Event → List PortCall → List PortCall
 take script calls =
     for_each (λ session. and_read script session.number (is_open session.standing && is_empty (unsent calls session.number))) (linked calls)
@@ -77,7 +77,8 @@ take script calls =
 abbrev pub reached : List PortCall → (ℕ → List ℕ) → ℕ → List ℕ
 reached flushed before number = if is_lost number (events flushed) then before number else (after first_world flushed).out number
 
--- The same after rounds as long as events are left, and a last flush. Each round takes an event, which bounds the turns.
+-- The same after rounds as long as events are left, and a last flush. Each round takes or skips an
+-- event, which bounds the turns.
 unfoldable pub reached_by : ℕ → List Event → List PortCall → (ℕ → List ℕ) → ℕ → List ℕ
 reached_by zero script calls before = reached (flush script calls) before
 reached_by (suc turns) script calls before =

@@ -3,10 +3,16 @@ use Rattle.std.specs.Prelude.{ℕ, ◌≡◌, ◌≤◌, ◌+◌, ◌==◌, ◌�
 use Rattle.std.specs.List.{list_any, range_with_len}
 use Rattle.port_model.specs.declared.events.Event.{Event}
 use Rattle.port_model.specs.Script.{script_events}
-use Rattle.port_model.specs.Streams.{Appends}
+use Rattle.port_model.specs.Streams.{Appends, Reads as IsReading}
 use Rattle.port_model.specs.Transcript.{session_lines, Extends}
+use Rattle.mime_tree.specs.Trees.{Tree}
+use Rattle.mime_tree.specs.declared.reasons.Reason.{Reason}
+use Rattle.header_reader.specs.Reading.{outcome}
+use Rattle.canon_writer.specs.Printing.{print}
 use Rattle.mail_server.specs.declared.status.Status.{Status}
-use Rattle.mail_server.specs.declared.status.Status.TheVariants.{Done, Usage, NoMemory, ReadFault, WriteFault, BadScript}
+use Rattle.mail_server.specs.declared.status.Status.TheVariants.{Done, Usage, NoMemory, ReadFault, WriteFault, Refused, BadScript}
+use Rattle.mail_server.specs.declared.words.Task.{Task}
+use Rattle.mail_server.specs.declared.words.Task.TheVariants.{Script, Canon}
 use Rattle.mail_server.specs.Script.{script_machine}
 use Rattle.mail_server.specs.Rounds.{script_sent}
 
@@ -17,23 +23,27 @@ code_of Usage = 2
 code_of NoMemory = 3
 code_of ReadFault = 4
 code_of WriteFault = 5
+code_of Refused = 8
 code_of BadScript = 9
 
--- The run came to the end of its script: it is done, or the script is a bad one.
+-- The run came to an end that its text gives: it is done, or the text is refused or is a bad script.
 abbrev pub IsEnd : Status → Type 0
-IsEnd status = (status ≡ Done) ⊎ (status ≡ BadScript)
+IsEnd status = (status ≡ Done) ⊎ ((status ≡ Refused) ⊎ (status ≡ BadScript))
+
+-- the same by its number
+abbrev pub IsEndCode : ℕ → Type 0
+IsEndCode code = (code ≡ 0) ⊎ ((code ≡ 8) ⊎ (code ≡ 9))
 
 -- A run ends with one of these numbers.
 abbrev pub IsCode : ℕ → Type 0
-IsCode code = IsTrue (list_any (λ known. known == code) (0 ∷ 2 ∷ 3 ∷ 4 ∷ 5 ∷ 9 ∷ []))
+IsCode code = IsTrue (list_any (λ known. known == code) (0 ∷ 2 ∷ 3 ∷ 4 ∷ 5 ∷ 8 ∷ 9 ∷ []))
 
--- The only words that are understood.
-abbrev pub AreScriptWords : List (List ℕ) → Type 0
-AreScriptWords words = words ≡ codes "script" ∷ []
+-- How a run ends that nothing comes in between of, and all that it writes.
+pub record End : Type 0 where
+  pub status : Status
+  pub lines : List ℕ
 
--- how many bytes a script may have
-abbrev pub most_bytes : ℕ
-most_bytes = 67108864
+-- The word `script`
 
 -- what the sessions from the first to the last were sent, as lines
 abbrev pub transcript_of : ℕ → (ℕ → List ℕ) → List ℕ
@@ -47,34 +57,40 @@ transcript script = transcript_of (script_machine script).last (script_sent scri
 abbrev pub bad_line : ℕ → List ℕ
 bad_line number = codes "bad line " ++ decimal number ++ codes "\n"
 
-abbrev pub events_or_line : Result (List Event) ℕ → Result (List Event) (List ℕ)
-events_or_line (Ok events) = Ok events
-events_or_line (Err number) = Err (bad_line number)
+abbrev pub end_of_events : Result (List Event) ℕ → End
+end_of_events (Ok events) = record { status = Done; lines = transcript events }
+end_of_events (Err number) = record { status = BadScript; lines = bad_line number }
 
--- What the text of a script says: its events, or the line that says why it is bad. That it is too long comes first.
-unfoldable pub reading : List ℕ → Result (List Event) (List ℕ)
-reading text = if nat_lt most_bytes (length text) then Err (codes "bad script: too long\n") else events_or_line (script_events text)
+-- The word `canon`
 
-abbrev pub lines_of_reading : Result (List Event) (List ℕ) → List ℕ
-lines_of_reading (Ok events) = transcript events
-lines_of_reading (Err line) = line
+abbrev pub end_of_message : Result Tree Reason → End
+end_of_message (Ok tree) = record { status = Done; lines = print tree }
+end_of_message (Err reason) = record { status = Refused; lines = codes "refused: unreadable\n" }
 
-abbrev pub status_of_reading : Result (List Event) (List ℕ) → Status
-status_of_reading (Ok events) = Done
-status_of_reading (Err line) = BadScript
+-- All words
 
--- all that the sink gets for a script
-abbrev pub script_output : List ℕ → List ℕ
-script_output text = lines_of_reading (reading text)
+-- how many bytes a text may have
+abbrev pub limit_of : Task → ℕ
+limit_of Script = 67108864
+limit_of Canon = 33554432
 
--- how a script ends that nothing comes in between of: as done, or as a bad one
-abbrev pub script_status : List ℕ → Status
-script_status text = status_of_reading (reading text)
+-- how a run ends whose text is too long
+abbrev pub end_of_long : Task → End
+end_of_long Script = record { status = BadScript; lines = codes "bad script: too long\n" }
+end_of_long Canon = record { status = Refused; lines = codes "refused: message too long\n" }
 
--- What is to be written of a script, and how the run ends then.
-pub record IsAnswer (status : Status) (lines : List ℕ) (said : Result (List Event) (List ℕ)) : Type 0 where
-  pub status_is : status ≡ status_of_reading said
-  pub lines_are : lines ≡ lines_of_reading said
+abbrev pub end_of_text : Task → List ℕ → End
+end_of_text Script text = end_of_events (script_events text)
+end_of_text Canon text = end_of_message (outcome text)
+
+-- What a text has a run write and end with. That it is too long comes first.
+unfoldable pub end_of : Task → List ℕ → End
+end_of task text = if nat_lt (limit_of task) (length text) then end_of_long task else end_of_text task text
+
+-- What is to be written, and how the run ends then.
+pub record IsAnswer (status : Status) (lines : List ℕ) (end : End) : Type 0 where
+  pub status_is : status ≡ end.status
+  pub lines_are : lines ≡ end.lines
 
 -- These bytes were read from the front of what was left, where the source tells it, which it does afterwards as before.
 abbrev pub HasRead : List ℕ → Option (List ℕ) → Option (List ℕ) → Type 0
@@ -103,18 +119,30 @@ pub record WritesFront (whole : List ℕ) (old new : Option (List ℕ)) : Type 0
   pub appended : Appends bytes old new
   pub front : Extends bytes whole
 
--- What a run reads of its source: at most one byte more than a script may have.
-pub record ReadsScript (old new : Option (List ℕ)) : Type 0 where
+-- What a run reads of its source: at most one byte more than its text may have.
+pub record ReadsText (task : Task) (old new : Option (List ℕ)) : Type 0 where
   pub bytes : List ℕ
   pub taken : HasRead bytes old new
-  pub within : length bytes ≤ most_bytes + 1
+  pub within : length bytes ≤ limit_of task + 1
 
--- What a run writes: a front of the output of its script, where the source tells the script's text.
-pub record WritesScript (text old new : Option (List ℕ)) : Type 0 where
+-- The source was read to its end, or to the first byte past the longest text.
+abbrev pub ReadsWhole : Task → Option (List ℕ) → Option (List ℕ) → Type 0
+ReadsWhole task old new = (bytes : List ℕ) × ReadsUpTo (limit_of task) bytes old new
+
+-- What a run writes: a front of what its text has it write, where the source tells the text.
+pub record WritesText (task : Task) (text old new : Option (List ℕ)) : Type 0 where
   pub bytes : List ℕ
   pub appended : Appends bytes old new
-  pub front : IfSome text (λ script. Extends bytes (script_output script))
+  pub front : IfSome text (λ all. Extends bytes (end_of task all).lines)
 
--- how a script ends, as far as the run comes to its end
-abbrev pub EndsScript : ℕ → Option (List ℕ) → Type 0
-EndsScript code text = IfSome text (λ script. code ≡ code_of (script_status script))
+-- Where the source tells the text, the run wrote all that the text has it write.
+abbrev pub WritesAll : Task → Option (List ℕ) → Option (List ℕ) → Option (List ℕ) → Type 0
+WritesAll task text old new = IfSome text (λ all. Appends (end_of task all).lines old new)
+
+-- Where the source tells the text, the run ends as the text has it.
+abbrev pub EndsAs : Task → Option (List ℕ) → ℕ → Type 0
+EndsAs task text code = IfSome text (λ all. code ≡ code_of (end_of task all).status)
+
+-- One reading was taken of a clock.
+abbrev pub ReadsClock : Option (List ℕ) → Option (List ℕ) → Type 0
+ReadsClock old new = (reading : ℕ) × IsReading reading old new

@@ -4,7 +4,9 @@
 //! relation `Serves` of `specs/Serves.antt`.
 #![tactic(auto)]
 
+mod answer;
 mod answers;
+mod canonical;
 mod commands;
 mod ending;
 mod hearing;
@@ -12,6 +14,7 @@ mod link;
 mod program;
 mod rounds;
 mod script;
+mod scripted;
 mod sending;
 mod server;
 mod shared;
@@ -19,6 +22,7 @@ mod status;
 mod streams;
 #[cfg(test)]
 mod tests;
+mod words;
 
 pub use program::run;
 pub use rounds::RoundFault;

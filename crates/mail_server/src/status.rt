@@ -16,6 +16,8 @@ pub(crate) enum Status {
     ReadFault,
     /// Writing to the sink failed.
     WriteFault,
+    /// The message is refused.
+    Refused,
     /// The script has a bad line or is too long.
     BadScript,
 }
@@ -31,6 +33,7 @@ impl Status {
             Status::NoMemory => 3,
             Status::ReadFault => 4,
             Status::WriteFault => 5,
+            Status::Refused => 8,
             Status::BadScript => 9,
         }
     }

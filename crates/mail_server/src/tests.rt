@@ -323,3 +323,49 @@ fn slow_links_are_sent_the_same(rt: HostRuntime) -> Result<(), Fail> {
     assert_eq!(rt; sent.as_slice(), all.as_slice());
     Ok(())
 }
+
+// Messages, and what `canon` writes of them: folded at 78 bytes a line, each line with its CRLF.
+#[test]
+fn messages_are_written_in_canonical_form(rt: HostRuntime) -> Result<(), Fail> {
+    let unreadable = b"refused: unreadable\n".as_slice();
+    let cases: [(&[u8], u8, &[u8]); 8] = [
+        (b"A:  b\n\nc\n", 0, b"A: b\r\n\r\nc\r\n"),
+        (b"", 0, b"\r\n"),
+        // A field that comes twice stays twice, a value that is empty stays so, and blanks at its ends go.
+        (b"A: 1\nA:\t2 \nB:\n\n", 0, b"A: 1\r\nA: 2\r\nB:\r\n\r\n"),
+        // Without an empty line all is header, whose continuation is unfolded.
+        (b"A: b\n c\n", 0, b"A: b c\r\n\r\n"),
+        (b"A b\n", 8, unreadable),
+        (b"A: b\n\nc\0", 8, unreadable),
+        (b"A: b\rc\n\n", 8, unreadable),
+        (
+            b"A: 3456789 123456789 123456789 123456789 123456789 123456789 123456789 1234567 x  y\n\n",
+            0,
+            b"A: 3456789 123456789 123456789 123456789 123456789 123456789 123456789 1234567\r\n x  y\r\n\r\n",
+        ),
+    ];
+    for (text, status, written) in cases {
+        let (got, lines) = ran(rt.alloc(), "canon", text, &[], &[])?;
+        assert_eq!(rt; got, status);
+        assert_eq!(rt; lines.as_slice(), written);
+    }
+    Ok(())
+}
+
+#[test]
+fn long_messages_are_refused(rt: HostRuntime) -> Result<(), Fail> {
+    let alloc = rt.alloc();
+    let (status, written) = ran(
+        alloc,
+        "canon",
+        &vec![in alloc; b'\n'; 33_554_433]?,
+        &[],
+        &[],
+    )?;
+    assert_eq!(rt; status, 8);
+    assert_eq!(rt;
+        written.as_slice(),
+        b"refused: message too long\n".as_slice()
+    );
+    Ok(())
+}

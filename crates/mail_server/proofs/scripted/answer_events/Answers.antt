@@ -3,22 +3,22 @@ use Rattle.std.specs.Prelude.{Result, Ok, Err, IfOk}
 use Rattle.std.specs.declared.alloc.AllocError.{AllocError}
 use Rattle.port_model.specs.declared.events.Event.{Event}
 use Rattle.port_model.specs.History.{sent}
-use Rattle.mail_server.specs.declared.program.Answer.{Answer}
+use Rattle.mail_server.specs.declared.answer.Answer.{Answer}
 use Rattle.mail_server.specs.declared.status.Status.TheVariants.{Done}
 use Rattle.mail_server.specs.Rounds.{script_sent}
-use Rattle.mail_server.specs.Run.{IsAnswer, transcript_of, transcript}
+use Rattle.mail_server.specs.Run.{IsAnswer, end_of_events, transcript_of, transcript}
 use Rattle.mail_server.proofs.Readings.{transcript-same}
-use Rattle.mail_server.proofs.program.answer_events.Goals as goal
-use Rattle.mail_server.proofs.program.answer_events.Goals.{in-Ok, in-Err}
+use Rattle.mail_server.proofs.scripted.answer_events.Goals as goal
+use Rattle.mail_server.proofs.scripted.answer_events.Goals.{in-Ok, in-Err}
 
 printed : {E : Type 0} (events : List Event) (result : Result Answer E) (lines : List ℕ) → lines ≡ transcript events → IfOk result (λ answer. answer.status ≡ Done) → IfOk result (λ answer. answer.lines.items ≡ lines)
-    → IfOk result (λ answer. IsAnswer answer.status answer.lines.items (Ok events))
+    → IfOk result (λ answer. IsAnswer answer.status answer.lines.items (end_of_events (Ok events)))
 printed events (Ok answer) lines is done printed_are = record { status_is = done; lines_are = printed_are ∙ is }
 printed events (Err error) lines is done printed_are = tt
 
 pub returns-clause-answers : goal.returns-clause-answers
 returns-clause-answers g c =
-    let Answers : Result Answer AllocError → Type 0 = λ result. IfOk result (λ answer. IsAnswer answer.status answer.lines.items (Ok c.args.events.items)) in
+    let Answers : Result Answer AllocError → Type 0 = λ result. IfOk result (λ answer. IsAnswer answer.status answer.lines.items (end_of_events (Ok c.args.events.items))) in
     elim c.match-played.branch [
       | in-Ok w ↦
           let texts = rw w.in-Ok.is at c.play-played.ensures.sent in

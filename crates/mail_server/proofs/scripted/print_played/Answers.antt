@@ -2,7 +2,7 @@ use Rattle.std.proofs.Common.{◌++◌, ◌∙◌, ◌+◌, List, ℕ, sym, ap}
 use Rattle.port_model.specs.History.{sent}
 use Rattle.port_model.specs.Transcript.{session_lines}
 use Rattle.mail_server.proofs.Readings.{transcript-more}
-use Rattle.mail_server.proofs.program.print_played.Goals as goal
+use Rattle.mail_server.proofs.scripted.print_played.Goals as goal
 
 pub sessions-preserved : goal.sessions-preserved
 sessions-preserved c =

@@ -1,0 +1,24 @@
+//! What a run writes.
+
+ghost use Rattle.std.specs.Prelude.{◌≡◌, IfOk};
+ghost use Rattle.mail_server.specs.Run.{IsAnswer};
+
+use crate::status::Status;
+use std::alloc::{AllocError, Global};
+
+/// What a run writes, and how it ends then.
+#[derive(Drop)]
+pub(crate) struct Answer {
+    pub(crate) status: Status,
+    pub(crate) lines: Vec<u8>,
+}
+
+/// The answer of one line.
+pub(crate) fn one_line(alloc: Global, status: Status, line: &[u8]) -> Result<Answer, AllocError>
+    ensures { IfOk result (λ answer. IsAnswer answer.status answer.lines.items (record { status = status; lines = line.now })) }
+{
+    Ok(Answer {
+        status,
+        lines: line.to_vec(alloc)?,
+    })
+}
