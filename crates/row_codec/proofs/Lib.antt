@@ -1,0 +1,4 @@
+pub mod Fields
+pub mod OneChange
+pub mod AllChanges
+pub mod Fitting

@@ -1,0 +1,4 @@
+pub mod Columns
+pub mod Encoding
+pub mod Codec
+pub mod Reading
