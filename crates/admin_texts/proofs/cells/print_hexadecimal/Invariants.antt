@@ -1,0 +1,7 @@
+use Rattle.std.proofs.Common.{◌≡◌, ◌++◌, take}
+use Rattle.std.specs.Prelude.{flat_map}
+use Rattle.admin_texts.specs.Columns.{hexadecimal}
+use Rattle.admin_texts.proofs.cells.print_hexadecimal.Given as goal
+
+abbrev pub invariant-loop-byte : goal.invariant-loop-byte
+invariant-loop-byte l = l.out.items ≡ l.fn.out.items ++ flat_map hexadecimal (take l.byte-index l.bytes)

@@ -1,0 +1,4 @@
+pub mod Columns
+pub mod Listing
+pub mod Laws
+pub mod Cells
