@@ -3,4 +3,3 @@ pub mod Contents
 pub mod Sizes
 pub mod Code
 pub mod Falls
-pub mod Plain
