@@ -23,3 +23,4 @@ pub mod IdSound
 pub mod CleanLemmas
 pub mod TrimmedLemmas
 pub mod IdClean
+pub mod WeightLemmas

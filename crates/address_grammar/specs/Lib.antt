@@ -11,3 +11,4 @@ pub mod Spelling
 pub mod Grammar
 pub mod IdGrammar
 pub mod Laws
+pub mod Weights

@@ -13,7 +13,7 @@ mod printing;
 mod reading;
 
 pub use ids::{print_ids, read_ids};
-pub use laws::{law_addresses, law_ids};
+pub use laws::{law_addresses, law_ids, law_weights};
 pub use printing::print;
 pub use reading::read;
 
