@@ -1,16 +1,14 @@
 -- What holds of each field that was read.
-use Rattle.std.proofs.Common.{◌≡◌, ℕ, ◌+◌, ◌<◌, ◌≤◌, Bool, true, false, cond, ◌&&◌, ◌||◌, not, eqb, ltb, List, [], ◌∷◌, ◌++◌, length, map, Option, Some, None, refl, sym, ◌∙◌, ap, subst, arith, inl, inr}
-use Rattle.std.proofs.lemmas.Bool.{cond_both, cond-true, cond-false, and_parts, and_from, and_right, or_parts, or_from, or_cases, not-true, not_from_false, not-false, cases_Bool, false_from_ne_true}
+use Rattle.std.proofs.Common.{◌≡◌, ℕ, ◌<◌, Bool, true, false, cond, ◌&&◌, ◌||◌, not, eqb, ltb, List, [], ◌∷◌, ◌++◌, length, map, Some, None, refl, sym, ◌∙◌, ap, subst, arith, inl, inr}
+use Rattle.std.proofs.lemmas.Bool.{cond_both, cond-true, cond-false, and_parts, and_from, and_right, or_parts, or_from, not-true, not_from_false, cases_Bool, false_from_ne_true}
 use Rattle.mail_text.specs.Texts.{begins, front, behind, is_blank, before_trimmed, without_blank_end, trimmed}
 use Rattle.mail_text.specs.Lines.{put, is_lf, lines, has}
-use Rattle.mime_tree.specs.declared.reasons.Reason.{Reason}
 use Rattle.mime_tree.specs.declared.reasons.Reason.TheVariants.{LoneReturn, NoField, LongHeader}
-use Rattle.header_reader.specs.declared.raw.RawField.{RawField}
 use Rattle.header_reader.specs.Fields.{header, is_name, is_colon, is_dash, rest, begins_with_dashes, is_field_line, continued, unfolded, field_of, fields_of}
 use Rattle.header_reader.specs.Faults.{have_cr, go_on, are_fields, header_size, longest_header, fault_of}
 use Rattle.header_reader.specs.Good.{IsGood, AllGood}
 use Rattle.header_reader.proofs.TrimLemmas.{trimmed-again}
-use Rattle.header_reader.proofs.UnfoldLemmas.{taken_in, stands_apart, blank_some}
+use Rattle.header_reader.proofs.UnfoldLemmas.{taken_in, stands_apart}
 
 -- No line has the byte.
 abbrev pub AllLack : ℕ → List (List ℕ) → Type 0

@@ -2,6 +2,5 @@ pub mod SearchLemmas
 pub mod PlaceLemmas
 pub mod ScanLemmas
 pub mod UnfoldLemmas
-pub mod ReadingLemmas
 pub mod TrimLemmas
 pub mod GoodLemmas

@@ -1,6 +1,6 @@
 -- A trimmed text has nothing left to trim.
-use Rattle.std.proofs.Common.{◌≡◌, ℕ, Bool, true, false, cond, List, [], ◌∷◌, refl, sym, ◌∙◌, ap}
-use Rattle.std.proofs.lemmas.Bool.{cond_both, cond-true, cond-false}
+use Rattle.std.proofs.Common.{◌≡◌, ℕ, false, List, [], ◌∷◌, refl, ◌∙◌, ap}
+use Rattle.std.proofs.lemmas.Bool.{cond_both, cond-false}
 use Rattle.mail_text.specs.Texts.{begins, behind, is_blank, before_trimmed, without_blank_end, trimmed}
 
 behind-begins : (y : List ℕ) → begins is_blank (behind is_blank y) ≡ false

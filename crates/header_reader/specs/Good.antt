@@ -1,5 +1,5 @@
 -- What holds of each field that was read.
-use Rattle.std.specs.Prelude.{◌≡◌, ℕ, Bool, true, false, List, [], ◌∷◌}
+use Rattle.std.specs.Prelude.{◌≡◌, ℕ, true, false, List, [], ◌∷◌}
 use Rattle.mail_text.specs.Texts.{begins, front, trimmed}
 use Rattle.mail_text.specs.Lines.{has}
 use Rattle.header_reader.specs.declared.raw.RawField.{RawField}

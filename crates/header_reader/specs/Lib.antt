@@ -2,4 +2,6 @@ pub mod Fields
 pub mod Faults
 pub mod Places
 pub mod Good
-pub mod Reading
+pub mod Kinds
+pub mod Values
+pub mod Laws

@@ -3,20 +3,24 @@
 
 mod faults;
 mod header;
+mod kinds;
+mod laws;
 mod line;
-mod plain;
 mod raw;
 mod scan;
+mod values;
 
 pub use faults::HeaderFault;
 pub use header::fields;
-pub use plain::{ReadFault, law_reading, read_plain};
+pub use kinds::{FieldKind, kind_of};
+pub use laws::law_fields;
 pub use raw::RawField;
+pub use values::read_field;
 
 #[cfg(test)]
 mod tests {
     use super::*;
-    use mime_tree::{Body, Reason, Value};
+    use mime_tree::Value;
     use std::alloc::{AllocError, Global};
     use std::test::Fail;
 
@@ -52,45 +56,71 @@ mod tests {
     #[test]
     fn refusals(rt: HostRuntime) -> Result<(), Fail> {
         let alloc = rt.alloc();
-        for (text, reason) in [
-            (b"A b\n".as_slice(), Reason::NoField),
-            (b" A: b\n", Reason::NoField),
-            (b"--A: b\n", Reason::NoField),
-            (b"A\n : b\n", Reason::NoField),
-            (b"A b\nB: \rc\n", Reason::LoneReturn),
-            (b"A: b\r", Reason::LoneReturn),
-            (b"A: \r\n\n\0", Reason::ZeroByte),
+        for (text, fault) in [
+            (b"A b\n".as_slice(), HeaderFault::BadLine),
+            (b" A: b\n", HeaderFault::BadLine),
+            (b"--A: b\n", HeaderFault::BadLine),
+            (b"A\n : b\n", HeaderFault::BadLine),
+            (b"A b\nB: \rc\n", HeaderFault::LoneCr),
+            (b"A: b\r", HeaderFault::LoneCr),
         ] {
-            match read_plain(alloc, text) {
-                Err(ReadFault::Unreadable(found)) => assert_eq!(rt; found, reason),
-                _ => assert!(rt; false),
+            match fields(alloc, text) {
+                Err(found) => assert_eq!(rt; found, fault),
+                Ok(_) => assert!(rt; false),
             }
         }
         let mut long = vec![in alloc; b'a'; 262_142]?;
         long[1] = b':';
-        assert!(rt; read_plain(alloc, &long).is_ok());
+        assert!(rt; fields(alloc, &long).is_ok());
         long.push(b'a')?;
-        match read_plain(alloc, &long) {
-            Err(fault) => assert_eq!(rt; fault, ReadFault::Unreadable(Reason::LongHeader)),
+        match fields(alloc, &long) {
+            Err(fault) => assert_eq!(rt; fault, HeaderFault::LongHeader),
             Ok(_) => assert!(rt; false),
         }
         Ok(())
     }
 
-    #[test]
-    fn a_plain_message(rt: HostRuntime) -> Result<(), Fail> {
-        let alloc = rt.alloc();
-        let Ok(message) = read_plain(alloc, b"A:  b\n\nc\n") else {
-            return Ok(assert!(rt; false));
-        };
-        assert_eq!(rt; message.fields.len(), 1);
-        match &message.fields[0].value {
-            Value::Text(value) => assert_eq!(rt; value.as_slice(), b"b".as_slice()),
-            _ => assert!(rt; false),
+    /// How each field of a text is read: a digit for each, 0 for text, 1 for addresses, 2 for a date, 3 for ids.
+    fn forms(alloc: Global, text: &[u8]) -> Result<Vec<u8>, Fail> {
+        let (raw, _) = fields(alloc, text)?;
+        let mut out = Vec::new(alloc);
+        for field in raw {
+            out.push(match read_field(alloc, field)?.value {
+                Value::Text(_) => b'0',
+                Value::Addresses(_) => b'1',
+                Value::Date(_) => b'2',
+                Value::Ids(_) => b'3',
+            })?;
         }
-        match &message.body {
-            Body::Leaf { bytes, .. } => assert_eq!(rt; bytes.as_slice(), b"c\r\n".as_slice()),
-            _ => assert!(rt; false),
+        Ok(out)
+    }
+
+    #[test]
+    fn typed_fields(rt: HostRuntime) -> Result<(), Fail> {
+        let alloc = rt.alloc();
+        for (text, expected) in [
+            (
+                b"From: a@b\nSENDER: a@b\nreply-to: a@b\nTo: a@b\ncC: a@b\nBcc: a@b\n".as_slice(),
+                b"111111".as_slice(),
+            ),
+            (
+                b"Resent-From: a@b\nResent-Sender: a@b\nResent-To: a@b\nResent-Cc: a@b\nResent-Bcc: a@b\nResent-Reply-To: a@b\n",
+                b"111110",
+            ),
+            (
+                b"Date: 1 Jan 70 00:00 EST\nRESENT-DATE: 1 Jan 70 00:00 Z\nDate: 32 Jan 70 00:00 Z\n",
+                b"220",
+            ),
+            (
+                b"Message-ID: <a>\nResent-Message-ID: <a>\nIn-Reply-To: <a> <b>\nreferences: <a>\n",
+                b"3333",
+            ),
+            (
+                b"Message-ID: <a> <b>\nReferences: a\nCc: what?\nSubject: a@b\nFroms: a@b\n",
+                b"00000",
+            ),
+        ] {
+            assert_eq!(rt; forms(alloc, text)?.as_slice(), expected);
         }
         Ok(())
     }
