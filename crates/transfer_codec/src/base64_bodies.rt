@@ -43,16 +43,25 @@ const LINE_LETTERS: usize = 76;
 pub fn print64(alloc: Global, bytes: &[u8]) -> Result<Vec<u8>, AllocError>
     ensures { IfOk result (λ v. v.items ≡ printed64 bytes.now) }
 {
+    let mut out = Vec::new(alloc);
+    append64(&mut out, bytes)?;
+    Ok(out)
+}
+
+/// Appends the same, with memory for all lines at once.
+pub fn append64(out: &mut Vec<u8>, bytes: &[u8]) -> Result<(), AllocError>
+    ensures { OnOk result (out.new.items ≡ out.old.items ++ printed64 bytes.now) }
+{
     let engine = standard_engine();
     let lines = bytes.len() / LINE_BYTES + 1;
-    let mut out = Vec::with_capacity(alloc, lines.saturating_mul(LINE_LETTERS + 2))?;
+    out.reserve(lines.saturating_mul(LINE_LETTERS + 2))?;
     let mut rest = bytes;
     while !rest.is_empty() {
         let (line, behind) = rest.split_at(LINE_BYTES.min(rest.len()));
-        push_line(&mut out, &engine, line)?;
+        push_line(out, &engine, line)?;
         rest = behind;
     }
-    Ok(out)
+    Ok(())
 }
 
 fn push_line(out: &mut Vec<u8>, engine: &GeneralPurpose, bytes: &[u8]) -> Result<(), AllocError>

@@ -6,7 +6,7 @@ mod engines;
 mod laws;
 mod quoted_bodies;
 
-pub use base64_bodies::{decode64, print64};
+pub use base64_bodies::{append64, decode64, print64};
 pub use engines::{decode_letters, standard_engine};
 pub use laws::{law_base64, law_quoted};
 pub use quoted_bodies::{decode_quoted, escape};

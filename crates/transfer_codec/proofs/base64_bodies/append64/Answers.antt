@@ -4,7 +4,7 @@ use Rattle.std.proofs.lemmas.List.{append-nil, take_min, drop_min}
 use Rattle.transfer_codec.specs.Base64.{base64}
 use Rattle.transfer_codec.specs.Layout.{ended, printed64}
 use Rattle.transfer_codec.proofs.PrintLemmas.{printed_more, printed_none}
-use Rattle.transfer_codec.proofs.base64_bodies.print64.Goals as goal
+use Rattle.transfer_codec.proofs.base64_bodies.append64.Goals as goal
 
 pub loop-rest-preserved : goal.loop-rest-preserved
 loop-rest-preserved c =
