@@ -1,0 +1,11 @@
+pub mod ContentTypes
+pub mod Kinds
+pub mod Bodies
+pub mod Reading
+pub mod Arrival
+pub mod Wrapping
+pub mod Weights
+pub mod Found
+pub mod Cutting
+pub mod Steps
+pub mod Laws
