@@ -1,17 +1,14 @@
 -- A field that was read is printed in lines that are read as that field.
-use Rattle.std.proofs.Common.{◌≡◌, ℕ, ◌+◌, ◌-◌, ◌<◌, ◌≤◌, Bool, true, false, cond, ◌&&◌, ◌||◌, not, eqb, leb, ltb, List, [], ◌∷◌, ◌++◌, length, map, refl, sym, ◌∙◌, ap, subst, arith}
-use Rattle.std.proofs.lemmas.Bool.{cond_both, cond-true, cond-false, and_parts, and_from, and_right, or_parts, or_from, or_left, or_right, not-true, not_from_false, ne_eqb, leb-true, lt-leb}
-use Rattle.std.proofs.lemmas.List.{append_assoc, append-nil}
+use Rattle.std.proofs.Common.{◌≡◌, ℕ, ◌-◌, ◌<◌, ◌≤◌, Bool, true, false, cond, ◌&&◌, ◌||◌, not, eqb, leb, ltb, List, [], ◌∷◌, ◌++◌, length, map, refl, sym, ◌∙◌, ap, arith}
+use Rattle.std.proofs.lemmas.Bool.{cond_both, cond-true, cond-false, and_parts, and_from, and_right, or_parts, or_from, or_left, or_right, not_from_false, ne_eqb, leb-true}
+use Rattle.std.proofs.lemmas.List.{append_assoc}
 use Rattle.mail_text.specs.Texts.{begins, front, behind, is_blank, trimmed}
 use Rattle.mail_text.specs.Lines.{put, ahead, has}
-use Rattle.mime_tree.specs.declared.values.Field.{Field}
 use Rattle.header_reader.specs.declared.raw.RawField.{RawField}
 use Rattle.header_reader.specs.Fields.{is_name, is_colon, is_dash, rest, begins_with_dashes, is_field_line, continued, unfolded, field_of, fields_of}
-use Rattle.header_reader.specs.Faults.{have_cr, go_on, are_fields}
+use Rattle.header_reader.specs.Faults.{go_on, are_fields}
 use Rattle.header_reader.specs.Good.{IsGood, AllGood}
-use Rattle.header_reader.specs.Reading.{read_field}
 use Rattle.canon_writer.specs.Folding.{words, line_width, folded, words_behind, field_lines}
-use Rattle.canon_writer.specs.Printing.{header_lines}
 use Rattle.canon_writer.proofs.WordLemmas.{AllBlank, LaterBlank, words-later}
 use Rattle.canon_writer.proofs.FoldLemmas.{StandApart, whole_line, unfolded-field}
 
@@ -96,9 +93,10 @@ whole_blank : (n v : List ℕ) → IsGood n v → begins is_blank (whole_line n 
 whole_blank n [] g = blank_name n [] g.some
 whole_blank n (c ∷ cs) g = blank_name n (32 ∷ c ∷ cs) g.some
 
--- The lines of fields that were read.
+-- The lines of fields with these texts as their values.
 abbrev pub lines_of : List RawField → List (List ℕ)
-lines_of raws = header_lines (map read_field raws)
+lines_of [] = []
+lines_of (raw ∷ raws) = field_lines raw.name raw.value ++ lines_of raws
 
 stand_apart : (raws : List RawField) → AllGood raws → StandApart (lines_of raws)
 stand_apart [] g = λ x. refl

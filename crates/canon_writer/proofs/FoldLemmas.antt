@@ -1,5 +1,5 @@
 -- Folded words are unfolded to the words.
-use Rattle.std.proofs.Common.{◌≡◌, ℕ, ◌-◌, ◌<◌, ◌≤◌, Bool, true, false, cond, eqb, ltb, List, [], ◌∷◌, ◌++◌, length, refl, sym, ◌∙◌, ap, subst, arith, length-append}
+use Rattle.std.proofs.Common.{◌≡◌, ℕ, ◌-◌, ◌<◌, ◌≤◌, true, false, eqb, ltb, List, [], ◌∷◌, ◌++◌, length, refl, sym, ◌∙◌, ap, arith, length-append}
 use Rattle.std.proofs.lemmas.Bool.{cond_both, cond-true, cond-false, le-ltb, lt-ltb}
 use Rattle.std.proofs.lemmas.List.{append_assoc, append-nil}
 use Rattle.mail_text.specs.Texts.{begins, is_blank}
@@ -102,7 +102,7 @@ pub some_of : (v : List ℕ) → eqb (length v) 0 ≡ false → 0 < length v
 some_of [] h = absurd (cc)
 some_of (c ∷ cs) h = omega arith
 
-words_behind-some : (room : ℕ) (ws : List (List ℕ)) → words_behind room ws ≡ [] → ⊥
+pub words_behind-some : (room : ℕ) (ws : List (List ℕ)) → words_behind room ws ≡ [] → ⊥
 words_behind-some room [] = λ e. cc
 words_behind-some room (w ∷ ws) = ahead-some w (folded (room - length w) ws)
 

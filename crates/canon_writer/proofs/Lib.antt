@@ -2,4 +2,15 @@ pub mod WordLemmas
 pub mod FoldLemmas
 pub mod HeaderLemmas
 pub mod FieldLemmas
+pub mod ValueLemmas
+pub mod KeptLemmas
+pub mod InsideLemmas
+pub mod DelimiterLemmas
+pub mod HeadLemmas
 pub mod PrintLemmas
+pub mod PartLemmas
+pub mod SizeLemmas
+pub mod WrapperLemmas
+pub mod ArrivalLemmas
+pub mod LawLemmas
+pub mod Examples

@@ -1,6 +1,6 @@
 -- A field in lines (RFC 5322 §2.2.3). A line is folded before the blanks of the word that would take it over 78 bytes
 -- (RFC 5322 §2.1.1).
-use Rattle.std.specs.Prelude.{ℕ, ◌-◌, Bool, ◌&&◌, not, nat_lt, if◌then◌else◌, List, [], ◌∷◌, ◌++◌, length}
+use Rattle.std.specs.Prelude.{ℕ, ◌-◌, ◌&&◌, not, nat_lt, if◌then◌else◌, List, [], ◌∷◌, ◌++◌, length}
 use Rattle.mail_text.specs.Texts.{begins, is_blank}
 use Rattle.mail_text.specs.Lines.{put, ahead}
 

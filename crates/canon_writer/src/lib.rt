@@ -9,12 +9,13 @@ pub use printing::{law_print, write_body, write_header, write_message};
 #[cfg(test)]
 mod tests {
     use super::*;
-    use header_reader::read_plain;
+    use mime_reader::{ReadFault, read_message, wrap};
+    use mime_tree::Reason;
     use std::alloc::Global;
     use std::test::Fail;
 
     fn canonical(alloc: Global, text: &[u8]) -> Result<Vec<u8>, Fail> {
-        let message = read_plain(alloc, text)?;
+        let message = read_message(alloc, text)?;
         Ok(write_message(alloc, &message)?)
     }
 
@@ -45,6 +46,143 @@ mod tests {
             let once = canonical(alloc, text)?;
             assert_eq!(rt; once.as_slice(), expected);
             assert_eq!(rt; canonical(alloc, &once)?.as_slice(), expected);
+        }
+        Ok(())
+    }
+
+    #[test]
+    fn typed_fields(rt: HostRuntime) -> Result<(), Fail> {
+        let alloc = rt.alloc();
+        for (text, expected) in [
+            (
+                b"From: ann@x.org (Ann)\n\n".as_slice(),
+                b"From: Ann <ann@x.org>\r\n\r\n".as_slice(),
+            ),
+            (b"Cc: what?\n", b"Cc: what?\r\n\r\n"),
+            (
+                b"date: 1 Jan 70 00:00 EST\n",
+                b"date: Thu, 01 Jan 1970 00:00:00 -0500\r\n\r\n",
+            ),
+            (
+                b"Message-ID: <a>  <b>\nReferences: <a>  <b>\n",
+                b"Message-ID: <a>  <b>\r\nReferences: <a> <b>\r\n\r\n",
+            ),
+            (
+                b"BCC: Team : a@x.org ,\n (b) \"B, C\" <@y:b@x.org> ;\n",
+                b"BCC: Team: a@x.org, \"B, C\" <b@x.org>;\r\n\r\n",
+            ),
+            (
+                b"To: aaaaaaaaaaaaaaaaaaaaaaaaaaaaaaaaaaaa@x.org,bbbbbbbbbbbbbbbbbbbbbbbbb@x.org\n",
+                b"To: aaaaaaaaaaaaaaaaaaaaaaaaaaaaaaaaaaaa@x.org,\r\n bbbbbbbbbbbbbbbbbbbbbbbbb@x.org\r\n\r\n",
+            ),
+        ] {
+            let once = canonical(alloc, text)?;
+            assert_eq!(rt; once.as_slice(), expected);
+            assert_eq!(rt; canonical(alloc, &once)?.as_slice(), expected);
+        }
+        Ok(())
+    }
+
+    #[test]
+    fn parts(rt: HostRuntime) -> Result<(), Fail> {
+        let alloc = rt.alloc();
+        for (text, expected) in [
+            (
+                b"Content-Type: multipart/mixed; boundary=x\n\npre\n--x\n\nhi\n".as_slice(),
+                b"Content-Type: multipart/mixed; boundary=x\r\n\r\n--x\r\n\r\nhi\r\n\r\n--x--\r\n".as_slice(),
+            ),
+            (
+                b"Content-Type: multipart/digest; boundary=\"a b\"\n\n--a b \n\nA: b\n\nc\n--a b--\nd\n",
+                b"Content-Type: multipart/digest; boundary=\"a b\"\r\n\r\n--a b\r\n\r\nA: b\r\n\r\nc\r\n--a b--\r\n",
+            ),
+            (
+                b"Content-Type: message/rfc822\n\nContent-Type: multipart/mixed; boundary=x\n\n--x\n--x\nA:b",
+                b"Content-Type: message/rfc822\r\n\r\nContent-Type: multipart/mixed; boundary=x\r\n\r\n--x\r\n\r\n\r\n--x\r\nA: b\r\n\r\n\r\n--x--\r\n",
+            ),
+            (
+                b"Content-Transfer-Encoding: BASE64\n\nA A\n==",
+                b"Content-Transfer-Encoding: BASE64\r\n\r\nAA==\r\n",
+            ),
+            (
+                b"Content-Transfer-Encoding: base64\n\nAB==\n",
+                b"Content-Transfer-Encoding: base64\r\n\r\nAB==\r\n",
+            ),
+        ] {
+            let once = canonical(alloc, text)?;
+            assert_eq!(rt; once.as_slice(), expected);
+            assert_eq!(rt; canonical(alloc, &once)?.as_slice(), expected);
+        }
+        Ok(())
+    }
+
+    /// A mail with an encoded subject, a quoted name, a preamble, a quoted-printable text and a picture.
+    #[test]
+    fn a_usual_mail(rt: HostRuntime) -> Result<(), Fail> {
+        let alloc = rt.alloc();
+        let text = b"From: \"Doe, Jane\" <jane@example.org>
+To: Alice <alice@example.com>
+Subject: =?utf-8?Q?Gr=C3=BC=C3=9Fe?=
+Date: Tue, 1 Jul 2003 10:52:37 +0200
+Message-ID: <m1@example.org>
+MIME-Version: 1.0
+Content-Type: multipart/mixed; boundary=\"b1\"
+
+This is a multi-part message in MIME format.
+--b1
+Content-Type: text/plain; charset=utf-8; format=flowed
+Content-Transfer-Encoding: quoted-printable
+
+Gr=C3=BC=C3=9Fe
+--b1
+Content-Type: image/png; name=\"p.png\"
+Content-Transfer-Encoding: base64
+Content-Disposition: attachment; filename=\"p.png\"
+
+iVBORw0KGgo=
+
+--b1--
+";
+        let expected =
+            b"From: \"Doe, Jane\" <jane@example.org>\r\nTo: Alice <alice@example.com>\r\nSubject: =?utf-8?Q?Gr=C3=BC=C3=9Fe?=\r\nDate: Tue, 01 Jul 2003 10:52:37 +0200\r\nMessage-ID: <m1@example.org>\r\nMIME-Version: 1.0\r\nContent-Type: multipart/mixed; boundary=\"b1\"\r\n\r\n--b1\r\nContent-Type: text/plain; charset=utf-8; format=flowed\r\nContent-Transfer-Encoding: quoted-printable\r\n\r\nGr=C3=BC=C3=9Fe\r\n--b1\r\nContent-Type: image/png; name=\"p.png\"\r\nContent-Transfer-Encoding: base64\r\nContent-Disposition: attachment; filename=\"p.png\"\r\n\r\niVBORw0KGgo=\r\n\r\n--b1--\r\n";
+        let once = canonical(alloc, text)?;
+        assert_eq!(rt; once.as_slice(), expected.as_slice());
+        assert_eq!(rt; once.len(), 526);
+        let message = read_message(alloc, text)?;
+        let header = write_header(alloc, &message.fields)?;
+        let body = write_body(alloc, &message.body, b"b2")?;
+        assert_eq!(rt; header.as_slice(), &expected[..243]);
+        assert!(rt;
+            body.as_slice()
+                .starts_with(b"--b2\r\nContent-Type: text/plain")
+        );
+        assert!(rt; body.as_slice().ends_with(b"\r\n\r\n--b2--\r\n"));
+        Ok(())
+    }
+
+    #[test]
+    fn a_wrapper(rt: HostRuntime) -> Result<(), Fail> {
+        let alloc = rt.alloc();
+        let message = wrap(alloc, b"A: b\r\n\r\n\0", Reason::ZeroByte, 0)?;
+        let text = write_message(alloc, &message)?;
+        let expected =
+            b"Date: Thu, 01 Jan 1970 00:00:00 +0000\r\nSubject: Unreadable message\r\nMIME-Version: 1.0\r\nContent-Type: multipart/mixed; boundary=\"wrapped\"\r\n\r\n--wrapped\r\nContent-Type: text/plain; charset=us-ascii\r\n\r\nThe attached message could not be read: a zero byte.\r\n--wrapped\r\nContent-Type: application/octet-stream\r\nContent-Transfer-Encoding: base64\r\nContent-Disposition: attachment; filename=original\r\n\r\nQTogYg0KDQoA\r\n\r\n--wrapped--\r\n";
+        assert_eq!(rt; text.as_slice(), expected.as_slice());
+        assert_eq!(rt; canonical(alloc, &text)?.as_slice(), expected.as_slice());
+        Ok(())
+    }
+
+    /// Folding makes a header longer, so the longest ones are read, but their print is not read again.
+    #[test]
+    fn a_header_too_long_once_it_is_folded(rt: HostRuntime) -> Result<(), Fail> {
+        let alloc = rt.alloc();
+        let mut text = b"A: a".to_vec(alloc)?;
+        for _ in 0..131_069 {
+            text.extend_from_slice(b" a")?;
+        }
+        let once = canonical(alloc, &text)?;
+        match read_message(alloc, &once) {
+            Err(fault) => assert_eq!(rt; fault, ReadFault::Unreadable(Reason::LongHeader)),
+            Ok(_) => assert!(rt; false),
         }
         Ok(())
     }

@@ -1,4 +1,4 @@
-use Rattle.std.proofs.Common.{◌≡◌, ◌++◌, ◌∷◌, [], ◌∙◌, ap, ◌-◌, length}
+use Rattle.std.proofs.Common.{◌++◌, ◌∷◌, [], ◌∙◌, ap, ◌-◌, length}
 use Rattle.canon_writer.specs.Folding.{folded}
 use Rattle.canon_writer.specs.Printing.{ended}
 use Rattle.canon_writer.proofs.FoldLemmas.{word_stays, word_breaks}

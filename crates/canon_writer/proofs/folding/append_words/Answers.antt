@@ -1,4 +1,4 @@
-use Rattle.std.proofs.Common.{◌≡◌, ◌++◌, sym, ◌∙◌, ap}
+use Rattle.std.proofs.Common.{◌++◌, sym, ◌∙◌, ap}
 use Rattle.canon_writer.specs.Folding.{words, folded}
 use Rattle.canon_writer.specs.Printing.{ended}
 use Rattle.canon_writer.proofs.FoldLemmas.{first_word}

@@ -1,4 +1,4 @@
-use Rattle.std.proofs.Common.{◌≡◌, ◌+◌, ◌-◌, ◌<◌, ◌≤◌, ◌∷◌, length, get_or, take, drop, sym, ◌∙◌, ap, arith, false}
+use Rattle.std.proofs.Common.{◌+◌, ◌<◌, ◌∷◌, length, sym, ◌∙◌, ap, arith}
 use Rattle.std.proofs.lemmas.Bool.{and_left, and_right, not_from_true}
 use Rattle.std.proofs.lemmas.List.{take_rest, drop_all}
 use Rattle.canon_writer.specs.Folding.{words}

@@ -1,4 +1,4 @@
-use Rattle.std.proofs.Common.{◌≡◌, ◌<◌, length, take, drop}
+use Rattle.std.proofs.Common.{◌≡◌, take, drop}
 use Rattle.mail_text.specs.Lines.{ahead}
 use Rattle.canon_writer.specs.Folding.{words}
 use Rattle.canon_writer.proofs.folding.split_word.Given as goal
