@@ -7,3 +7,5 @@ pub mod AfterEdits
 pub mod Groups
 pub mod FreeNumbers
 pub mod Numbers
+pub mod Prefixes
+pub mod Firsts

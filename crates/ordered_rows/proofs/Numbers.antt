@@ -150,3 +150,12 @@ at_its_key {X} key g row (x ∷ rows) order e = by (g x) e (λ q. at_its_key key
     by false q rest =
         let less : row_cmp key x row ≡ Less = found_holds (λ y. row_cmp key x y ≡ Less) g rows row order.0 q in
         ap (λ b. cond b (Some x) (row_at key (key row) rows)) (same_eq (key x) (key row) ∙ ap is_eq less) ∙ rest q
+
+pub all_at_keys : {X : Type 0} (key : X → RowKey) (rows : List X) → IsInOrder key rows → AllByRecursion (λ r. row_at key (key r) rows ≡ Some r) rows
+unfolding IsStrictlySortedBy
+all_at_keys key [] order = tt
+all_at_keys {X} key (x ∷ rows) order = (ap (λ b. cond b (Some x) (row_at key (key x) rows)) (same_itself (key x)), later rows order.0 (all_at_keys key rows order.1))
+  where
+    later : (ys : List X) → AllByRecursion (λ y. row_cmp key x y ≡ Less) ys → AllByRecursion (λ y. row_at key (key y) rows ≡ Some y) ys → AllByRecursion (λ y. row_at key (key y) (x ∷ rows) ≡ Some y) ys
+    later [] less at = tt
+    later (y ∷ ys) less at = (ap (λ b. cond b (Some x) (row_at key (key y) rows)) (same_eq (key x) (key y) ∙ ap is_eq less.0) ∙ at.0, later ys less.1 at.1)

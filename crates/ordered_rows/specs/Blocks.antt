@@ -2,7 +2,7 @@
 use Rattle.std.specs.Prelude.{◌≡◌, ℕ, ◌<◌, ◌+◌, ◌-◌, ◌^◌, Bool, true, not, List, [], ◌∷◌, ◌++◌, length, take, drop, Vec, Option, Some, None, slice_get}
 use Rattle.std.specs.List.{filter, flat_map}
 use Rattle.ordered_rows.specs.RowKey.{RowKey}
-use Rattle.ordered_rows.specs.Listed.{IsInOrder, has_key, is_below, row_at}
+use Rattle.ordered_rows.specs.Listed.{IsInOrder, has_key, has_number, is_below, row_at, without_number}
 
 -- the rows of all blocks
 abbrev pub flat : {X Y : Type 0} → List (Vec X Y) → List X
@@ -47,6 +47,16 @@ pub record HasKey {X Y : Type 0} (key : X → RowKey) (k : RowKey) (blocks : Lis
 abbrev pub IsPlace : {X Y : Type 0} → (X → RowKey) → RowKey → List (Vec X Y) → Option (ℕ × ℕ) → Type 0
 IsPlace key k blocks None = row_at key k (flat blocks) ≡ None
 IsPlace key k blocks (Some s) = HasKey key k blocks s.0 s.1
+
+-- row i of block m is the first of a number
+pub record HasFirst {X Y : Type 0} (key : X → RowKey) (n : ℕ) (blocks : List (Vec X Y)) (m i : ℕ) : Type 0 where
+  pub row : X
+  pub numbered : has_number key n row ≡ true
+  pub found : HasKey key (key row) blocks m i
+
+abbrev pub IsFirst : {X Y : Type 0} → (X → RowKey) → ℕ → List (Vec X Y) → Option (ℕ × ℕ) → Type 0
+IsFirst key n blocks None = without_number key n (flat blocks) ≡ flat blocks
+IsFirst key n blocks (Some s) = HasFirst key n blocks s.0 s.1
 
 -- a table, with the number of its rows
 pub record IsCounted {X Y : Type 0} (key : X → RowKey) (blocks : List (Vec X Y)) (len : ℕ) : Type 0 where

@@ -1,9 +1,10 @@
 -- Tables as lists of rows in the order of their keys.
-use Rattle.std.specs.Prelude.{◌≡◌, ℕ, ◌+◌, ◌-◌, ◌^◌, ◌<◌, ◌≤◌, ◌==◌, nat_lt, Bool, true, false, not, cond, if◌then◌else◌, List, [], ◌∷◌, ◌++◌, map, Option, Some, None, MatchOption, MatchBool}
+use Rattle.std.specs.Prelude.{◌≡◌, ℕ, ◌+◌, ◌-◌, ◌^◌, ◌<◌, ◌≤◌, ◌&&◌, ◌==◌, nat_eq, nat_lt, Bool, true, false, not, cond, if◌then◌else◌, List, [], ◌∷◌, ◌++◌, map, Option, Some, None, MatchOption, MatchBool}
 use Rattle.std.specs.declared.cmp.Ordering.{Ordering}
 use Rattle.std.specs.Ordering.{is_lt}
 use Rattle.std.specs.List.{find, filter, list_any}
 use Rattle.std.specs.List.Sorted.{IsStrictlySortedBy}
+use Rattle.std.specs.Cmp.Lexicographic.{pointwise}
 use Rattle.ordered_rows.specs.RowKey.{RowKey, key_cmp, same_key, same_group}
 
 -- Below, `key` gives each row's key.
@@ -64,6 +65,16 @@ placed n ns = filter (λ i. nat_lt i n) ns ++ n ∷ filter (λ i. not (nat_lt i 
 
 abbrev pub has_number : {X : Type 0} → (X → RowKey) → ℕ → X → Bool
 has_number key n row = (key row).number == n
+
+-- without the rows of a number
+abbrev pub without_number : {X : Type 0} → (X → RowKey) → ℕ → List X → List X
+without_number key n rows = filter (λ r. not (has_number key n r)) rows
+
+abbrev pub has_text : {X : Type 0} → (X → RowKey) → List ℕ → X → Bool
+has_text key text row = pointwise nat_eq (key row).text text
+
+abbrev pub is_under : {X : Type 0} → (X → RowKey) → ℕ → List ℕ → X → Bool
+is_under key n text row = has_text key text row && has_number key n row
 
 -- the least number from a start on that no key has
 pub record IsLeastFree {X : Type 0} (key : X → RowKey) (start : ℕ) (rows : List X) (n : ℕ) : Type 0 where

@@ -1,7 +1,7 @@
 // Laws of tables as lists, for the proofs of callers.
 ghost use Rattle.std.specs.Prelude.{◌≡◌, ◌++◌, ◌∷◌, [], List, Some, None, IsSome, Bool, true, false, nat_lt, ℕ, map};
 ghost use Rattle.std.specs.Ordering.{is_lt};
-ghost use Rattle.std.specs.List.{filter, find};
+ghost use Rattle.std.specs.List.{AllByRecursion, filter, find};
 ghost use Rattle.ordered_rows.specs.RowKey.{RowKey, key_cmp, number_key, same_key};
 ghost use Rattle.ordered_rows.specs.InsertLaws.{InsertLaws};
 ghost use Rattle.ordered_rows.specs.Listed.{IsInOrder, IsNewNumber, is_below, row_at, last_row, placed, with_row, with_replaced, without};
@@ -32,6 +32,11 @@ pub fn row_after_replace<R: Keyed>()
         → row_at R.key_of k (with_replaced R.key_of row rows) ≡ row_at R.key_of k rows }
 {}
 
+/// A replacement keeps the order.
+pub fn order_after_replace<R: Keyed>()
+    ensures { (row : R) (rows : List R) → IsInOrder R.key_of rows → IsInOrder R.key_of (with_replaced R.key_of row rows) }
+{}
+
 /// The row at a key whose row was removed, and at another key.
 pub fn row_after_remove<R: Keyed>()
     ensures same { (k : RowKey) (rows : List R) → row_at R.key_of k (without R.key_of k rows) ≡ None }
@@ -45,6 +50,11 @@ pub fn last_row_after_insert<R: Keyed>()
     ensures behind { (row last : R) (rows : List R) → IsInOrder R.key_of rows → last_row rows ≡ Some last
         → is_below R.key_of (R.key_of row) last ≡ true → with_row R.key_of row rows ≡ rows ++ row ∷ [] }
     ensures last { (row : R) (rows : List R) → last_row (rows ++ row ∷ []) ≡ Some row }
+{}
+
+/// In order, each row is the one at its key.
+pub fn rows_at_keys<R: Keyed>()
+    ensures { (rows : List R) → IsInOrder R.key_of rows → AllByRecursion (λ r. row_at R.key_of (R.key_of r) rows ≡ Some r) rows }
 {}
 
 /// What an insertion makes of a table, in one record.

@@ -9,12 +9,14 @@ pub mod laws;
 mod numbered;
 mod rows;
 mod table;
+mod under;
 
 pub use group::Group;
 pub use key::{Key, Keyed};
 pub use numbered::Numbered;
 pub use rows::Rows;
 pub use table::Table;
+pub use under::Under;
 
 #[cfg(test)]
 mod tests {
@@ -97,6 +99,9 @@ mod tests {
         assert_eq!(rt; numbered.next().map(|row| row.letter[0]), Some(b'a'));
         assert_eq!(rt; numbered.next().map(|row| row.letter[0]), Some(b'b'));
         assert!(rt; numbered.next().is_none());
+        let mut under = table.under(77, b"a");
+        assert_eq!(rt; under.next().map(|row| row.letter[0]), Some(b'a'));
+        assert!(rt; under.next().is_none());
         assert_eq!(rt; table.last().map(|row| row.number), Some(199));
         Ok(())
     }

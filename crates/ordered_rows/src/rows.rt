@@ -32,6 +32,13 @@ impl<'a, R: Keyed> Rows<'a, R> {
         Rows { block, later }
     }
 
+    /// The rows of a table that is kept as a slice, in its order.
+    pub fn of_slice(rows: &'a [R]) -> Rows<'a, R>
+        ensures { result ≡ rows.now }
+    {
+        Rows::of(rows, &[])
+    }
+
     /// Leaves no row.
     pub fn end(&mut self)
         ensures { self.new ≡ [] }

@@ -3,13 +3,14 @@ ghost use Rattle.std.specs.Prelude.{◌≡◌, ◌<◌, ◌≤◌, ◌^◌, [], 
 ghost use Rattle.std.specs.Option.{option_copied};
 ghost use Rattle.std.specs.List.{filter};
 ghost use Rattle.ordered_rows.specs.RowKey.{row_key};
-ghost use Rattle.ordered_rows.specs.Listed.{IsInOrder, IsLeastFree, IsNewNumber, has_number, is_in_group, row_at, rows_from, last_row, with_row, with_replaced, without};
+ghost use Rattle.ordered_rows.specs.Listed.{IsInOrder, IsLeastFree, IsNewNumber, has_number, has_text, is_in_group, row_at, rows_from, last_row, with_row, with_replaced, without, without_number};
 
-use crate::blocks::{exchange, last_in, put, rest_in, row_in, take_out};
+use crate::blocks::{exchange, last_in, put, rest_in, row_in, take_first, take_out};
 use crate::group::Group;
 use crate::key::{Key, Keyed};
 use crate::numbered::Numbered;
 use crate::rows::Rows;
+use crate::under::Under;
 use std::alloc::{AllocError, Global};
 use std::marker::Model;
 
@@ -106,6 +107,21 @@ impl<R: Keyed> Table<R> {
         Numbered::of(self.rows_from(Key::of_number(number)), number)
     }
 
+    /// The rows whose keys have a number and a first text, whatever their other parts are.
+    pub fn under<'a>(&'a self, number: u64, text: &'a [u8]) -> Under<'a, R>
+        ensures { result ≡ filter (has_text R.key_of text.now) (filter (has_number R.key_of number) self.now) }
+    {
+        let first = Key {
+            number,
+            text,
+            second: &[],
+            third: &[],
+            place: 0,
+            item: 0,
+        };
+        Under::of(self.rows_from(first), number, text)
+    }
+
     /// The number for a new row of a table whose keys have a number alone. Costs a look-up where the greatest number isn't the last
     /// of 64 bits, and else a walk over the rows that are numbered from 1 without a gap.
     pub fn new_number(&self) -> u64
@@ -173,5 +189,14 @@ impl<R: Keyed> Table<R> {
         let row = take_out(&mut self.blocks, key)?;
         self.len -= 1;
         Some(row)
+    }
+
+    /// Takes out the rows whose keys have a number. Costs a search for each of them.
+    pub fn remove_numbered(&mut self, number: u64)
+        ensures { self.new ≡ without_number R.key_of number self.old }
+    {
+        'removing: while take_first(&mut self.blocks, number) {
+            self.len -= 1;
+        }
     }
 }
