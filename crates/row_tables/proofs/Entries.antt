@@ -1,5 +1,5 @@
 -- Indexes after an insertion.
-use Rattle.std.proofs.Common.{◌≡◌, ℕ, Bool, true, false, cond, ◌&&◌, ◌||◌, ◌==◌, nat_eq, nat_lt, List, [], ◌∷◌, map, Some, None, refl, sym, ap, ◌∙◌, subst}
+use Rattle.std.proofs.Common.{◌≡◌, ℕ, Bool, true, false, cond, ◌&&◌, ◌||◌, ◌==◌, nat_eq, nat_lt, List, [], ◌∷◌, map, Option, Some, None, refl, sym, ap, ◌∙◌, subst}
 use mathlib.Core.Bool.{true≢false}
 use Rattle.std.specs.declared.cmp.Ordering.TheVariants.{Less, Equal, Greater}
 use Rattle.std.specs.Ordering.{is_lt, nat_cmp, ordering_then}
@@ -9,11 +9,10 @@ use Rattle.std.specs.Option.{option_map}
 use Rattle.std.specs.List.{filter, find, list_any}
 use Rattle.ordered_rows.specs.RowKey.{RowKey, key_cmp, same_key, number_key}
 use Rattle.ordered_rows.specs.Listed.{IsInOrder, has_key, is_below, is_in_group, row_at, with_row, placed}
-use Rattle.row_tables.specs.Keys.{name_key, digest_key, name_entry_key, digest_entry_key, body_part_key, field_name_key}
-use Rattle.row_tables.specs.Indexes.{has_name, has_digest, field_name_id, body_ids, AreNames, AreDigests}
+use Rattle.row_tables.specs.Keys.{content_entry_key, digest_key, digest_entry_key, body_part_key}
+use Rattle.row_tables.specs.Indexes.{has_digest, body_ids, Contents, AreIndexed, AreDigests}
 use Rattle.row_tables.specs.declared.contents.BodyPart.{BodyPart}
-use Rattle.row_tables.specs.declared.contents.FieldName.{FieldName}
-use Rattle.row_tables.specs.declared.indexes.NameEntry.{NameEntry}
+use Rattle.row_tables.specs.declared.indexes.ContentEntry.{ContentEntry}
 use Rattle.row_tables.specs.declared.indexes.DigestEntry.{DigestEntry}
 
 -- what the laws of a table say of a row that was inserted, where a test finds it and where not
@@ -30,20 +29,30 @@ pub record Numbers {X : Type 0} (key : X → RowKey) : Type 0 where
       → map f (filter g (with_row key row rows)) ≡ placed (f row) (map f (filter g rows))
   pub other : (f : X → ℕ) (g : X → Bool) (row : X) (rows : List X) → g row ≡ false → IsInOrder key rows → map f (filter g (with_row key row rows)) ≡ map f (filter g rows)
 
-pub names_with : (names : List NameEntry) (rows : List FieldName) (entry : NameEntry) (row : FieldName) → Finds field_name_key → Keeps name_entry_key → AreNames names rows → entry.name ≡ row.name → entry.id ≡ row.id
-    → find (has_name row.name) rows ≡ None → IsInOrder field_name_key rows → AreNames (with_row name_entry_key entry names) (with_row field_name_key row rows)
-names_with names rows entry row finds keeps are same_name same_id new order = record { each = λ name. by name (pointwise nat_eq row.name name) refl }
+pub indexed_with : {X : Type 0} (key : X → RowKey) (contents : Contents X) (entries : List ContentEntry) (rows : List X) (entry : ContentEntry) (row : X) → Finds key → Keeps content_entry_key → AreIndexed contents entries rows
+    → content_entry_key entry ≡ contents.entry (contents.content row) → entry.id ≡ contents.id row → find (contents.has (contents.content row)) rows ≡ None → IsInOrder key rows → AreIndexed contents (with_row content_entry_key entry entries) (with_row key row rows)
+indexed_with {X} key contents entries rows entry row finds keeps are same_entry same_id new order = record { each = λ c. by c (contents.has c row) refl }
   where
-    by : (name : List ℕ) (b : Bool) → pointwise nat_eq row.name name ≡ b
-        → option_map (λ (e : NameEntry). e.id) (row_at name_entry_key (name_key name) (with_row name_entry_key entry names)) ≡ field_name_id name (with_row field_name_key row rows)
-    by name true e =
-        let here : row.name ≡ name = (bytes_decides row.name name).0 e in
-        let found = finds.same (has_name name) row rows e (subst (λ n. find (has_name n) rows ≡ None) here new) in
-        let at = subst (λ n. row_at name_entry_key (name_key n) (with_row name_entry_key entry names) ≡ Some entry) (same_name ∙ here) (keeps.same entry names) in
-        ap (option_map (λ (x : NameEntry). x.id)) at ∙ ap Some same_id ∙ sym (ap (option_map (λ (r : FieldName). r.id)) found)
-    by name false e =
-        let differ : same_key (name_entry_key entry) (name_key name) ≡ false = ap (λ n. same_key (name_key n) (name_key name)) same_name ∙ ap (λ b. b && true && true && true) e in
-        ap (option_map (λ (x : NameEntry). x.id)) (keeps.other entry (name_key name) names differ) ∙ are.each name ∙ sym (ap (option_map (λ (r : FieldName). r.id)) (finds.other (has_name name) row rows e order))
+    by : (c : contents.Content) (b : Bool) → contents.has c row ≡ b
+        → option_map (λ (e : ContentEntry). e.id) (row_at content_entry_key (contents.entry c) (with_row content_entry_key entry entries)) ≡ option_map contents.id (find (contents.has c) (with_row key row rows))
+    by c true e =
+        let here : contents.content row ≡ c = contents.same c row e in
+        let found = finds.same (contents.has c) row rows e (subst (λ n. find (contents.has n) rows ≡ None) here new) in
+        let at = subst (λ k. row_at content_entry_key k (with_row content_entry_key entry entries) ≡ Some entry) (same_entry ∙ ap contents.entry here) (keeps.same entry entries) in
+        ap (option_map (λ (x : ContentEntry). x.id)) at ∙ ap Some same_id ∙ sym (ap (option_map contents.id) found)
+    by c false e =
+        let differ : same_key (content_entry_key entry) (contents.entry c) ≡ false = subst (λ k. same_key k (contents.entry c) ≡ false) (sym same_entry) (contents.differs c row e) in
+        ap (option_map (λ (x : ContentEntry). x.id)) (keeps.other entry (contents.entry c) entries differ) ∙ are.each c ∙ sym (ap (option_map contents.id) (finds.other (contents.has c) row rows e order))
+
+no_id_none : {X : Type 0} (id : X → ℕ) (o : Option X) → option_map id o ≡ None → o ≡ None
+no_id_none id None e = refl
+no_id_none id (Some x) e = cc
+
+pub content_is_new : {X : Type 0} (contents : Contents X) (entries : List ContentEntry) (rows : List X) (entry : ContentEntry) (row : X) → AreIndexed contents entries rows → content_entry_key entry ≡ contents.entry (contents.content row)
+    → find (contents.has (contents.content row)) rows ≡ None → row_at content_entry_key (content_entry_key entry) entries ≡ None
+content_is_new contents entries rows entry row are same new =
+    no_id_none (λ (e : ContentEntry). e.id) (row_at content_entry_key (content_entry_key entry) entries)
+    (ap (λ k. option_map (λ (e : ContentEntry). e.id) (row_at content_entry_key k entries)) same ∙ are.each (contents.content row) ∙ ap (option_map contents.id) new)
 
 -- entries of one digest are ordered by their ids
 is_lt_nat : (a b : ℕ) → is_lt (nat_cmp a b) ≡ nat_lt a b

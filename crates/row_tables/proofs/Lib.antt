@@ -1,3 +1,7 @@
+pub mod Lists
 pub mod Entries
 pub mod References
+pub mod Closed
 pub mod Running
+pub mod Standing
+pub mod Ascending

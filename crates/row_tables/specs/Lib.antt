@@ -1,5 +1,5 @@
 pub mod Keys
 pub mod TableRows
 pub mod Indexes
-pub mod Fits
 pub mod References
+pub mod Fits

@@ -1,11 +1,19 @@
 // Rows of indexes, which find the rows of a table by their contents.
+ghost use Rattle.std.specs.Prelude.{◌≡◌, IfOk};
+ghost use Rattle.ordered_rows.specs.RowKey.{number_key};
+ghost use Rattle.row_tables.specs.Keys.{content_entry_key};
+ghost use Rattle.row_tables.specs.Indexes.{Contents};
+
 use octets::Octets;
 use ordered_rows::{Key, Keyed};
+use std::alloc::{AllocError, Global};
 
-// The row of a name.
+// Where a content is: the id of the row with these texts. A content of one text leaves the others empty.
 #[derive(Drop)]
-pub(crate) struct NameEntry {
-    pub(crate) name: Octets,
+pub(crate) struct ContentEntry {
+    pub(crate) text: Octets,
+    pub(crate) second: Octets,
+    pub(crate) third: Octets,
     pub(crate) id: u64,
 }
 
@@ -16,14 +24,29 @@ pub(crate) struct DigestEntry {
     pub(crate) id: u64,
 }
 
-impl Keyed for NameEntry {
-    ghost use Rattle.row_tables.specs.Keys.{name_entry_key};
+// A row with an id and a content that no other row has.
+pub(crate) trait Unique: Keyed {
+    ghost contents: { Contents Self };
 
-    ghost key_of = { name_entry_key };
+    fn id(&self) -> u64
+        ensures id { result ≡ contents.id self.now }
+        ensures key { Self.key_of self.now ≡ number_key result };
+
+    fn entry(&self, alloc: Global) -> Result<ContentEntry, AllocError>
+        ensures key { IfOk result (λ e. content_entry_key e ≡ contents.entry (contents.content self.now)) }
+        ensures id { IfOk result (λ e. e.id ≡ contents.id self.now) };
+}
+
+impl Keyed for ContentEntry {
+    ghost use Rattle.row_tables.specs.Keys.{content_entry_key};
+
+    ghost key_of = { content_entry_key };
 
     fn key(&self) -> Key<'_> {
         Key {
-            text: self.name.as_slice(),
+            text: self.text.as_slice(),
+            second: self.second.as_slice(),
+            third: self.third.as_slice(),
             ..Key::of_number(0)
         }
     }

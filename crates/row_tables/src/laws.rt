@@ -1,27 +1,58 @@
 // Laws of changes, for the proofs of callers.
-ghost use Rattle.std.specs.Prelude.{◌≡◌, List};
+ghost use Rattle.std.specs.Prelude.{◌≡◌, ℕ, List, None};
+ghost use Rattle.ordered_rows.specs.RowKey.{number_key};
+ghost use Rattle.ordered_rows.specs.Listed.{row_at};
+ghost use Rattle.row_tables.specs.Keys.{message_key};
 ghost use Rattle.row_tables.specs.Fits.{Fits, Runs, applied};
-ghost use Rattle.row_tables.specs.References.{AreClosed, AreOrdered};
+ghost use Rattle.row_tables.specs.References.{AreClosed, AreOrdered, IsUnknown};
 ghost use Rattle.row_tables.specs.TableRows.{TableRows};
 ghost use Rattle.row_tables.specs.declared.change.RowChange.{RowChange};
 
-use crate::contents::{BodyPart, FieldName};
-use crate::mails::{HeaderField, MessageRow, PartNumber};
-use ordered_rows::laws::{insertion, keys};
+use crate::contents::{AddressRow, BodyPart, FieldName};
+use crate::heads::{Mailbox, Subscription, User};
+use crate::mails::{HeaderField, MessageRow, PartNumber, UnparsedMessage};
+use crate::marks::{DeletedMessage, FlagName, FlagRow, MailboxMessage};
+use crate::values::{AddressField, DateField, MessageId};
+use ordered_rows::laws::{
+    insertion, keys, order_after_replace, row_after_remove, row_after_replace,
+};
 
 /// A change that fits keeps the tables in order, and each row that a row refers to is there after it where it was so before.
 pub fn changes_keep_references()
     ensures order { (t : TableRows) (change : RowChange) → AreOrdered t → Fits t change → AreOrdered (applied t change) }
-    ensures closed { (t : TableRows) (change : RowChange) → AreOrdered t → AreClosed t → Fits t change
-        → AreClosed (applied t change) }
+    ensures closed { (t : TableRows) (change : RowChange) → AreClosed t → Fits t change → AreClosed (applied t change) }
 {
     keys();
+    insertion::<User>();
+    insertion::<Mailbox>();
     insertion::<MessageRow>();
-    insertion::<PartNumber>();
-    insertion::<HeaderField>();
+    insertion::<MailboxMessage>();
+    insertion::<DeletedMessage>();
+    insertion::<FlagName>();
+    insertion::<FlagRow>();
     insertion::<BodyPart>();
+    insertion::<PartNumber>();
     insertion::<FieldName>();
+    insertion::<HeaderField>();
+    insertion::<AddressRow>();
+    insertion::<AddressField>();
+    insertion::<DateField>();
+    insertion::<MessageId>();
+    insertion::<UnparsedMessage>();
+    insertion::<Subscription>();
+    row_after_replace::<Mailbox>();
+    row_after_replace::<MailboxMessage>();
+    order_after_replace::<Mailbox>();
+    order_after_replace::<MailboxMessage>();
+    row_after_remove::<Mailbox>();
+    row_after_remove::<MailboxMessage>();
 }
+
+/// A message that isn't there has no row in the tables of its parts, fields and values.
+pub fn message_is_unknown()
+    ensures { (t : TableRows) (message : ℕ) → AreClosed t → row_at message_key (number_key message) t.mails.messages ≡ None
+        → IsUnknown message t }
+{}
 
 /// Changes that fit one after another make the same tables whenever they are made.
 pub fn changes_have_one_end()

@@ -5,14 +5,34 @@
 mod body_ids;
 mod change;
 mod contents;
+mod fitting;
+mod head_rows;
+mod heads;
 mod indexes;
+mod keys;
 pub mod laws;
+mod mail_rows;
 mod mails;
+mod mark_rows;
+#[cfg(test)]
+mod mark_tests;
+mod marks;
+mod row_count;
 mod shared;
+mod shared_rows;
 mod tables;
+#[cfg(test)]
+mod tests;
+mod uids;
+mod values;
 
 pub use body_ids::BodyIds;
 pub use change::RowChange;
-pub use contents::{BodyPart, FieldName};
-pub use mails::{HeaderField, MessageRow, PartNumber};
+pub use contents::{AddressRow, BodyPart, FieldName};
+pub use heads::{Counters, Mailbox, Subscription, User};
+pub use mails::{HeaderField, MessageRow, PartNumber, UnparsedMessage};
+pub use marks::{DeletedMessage, FlagName, FlagRow, MailboxMessage};
+pub use row_count::RowCount;
 pub use tables::Tables;
+pub use uids::Uids;
+pub use values::{AddressField, DateField, MessageId};

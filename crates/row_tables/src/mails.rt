@@ -32,6 +32,14 @@ pub struct HeaderField {
     pub value: Octets,
 }
 
+/// A row of `unparsed_messages`: a message that couldn't be read and stands in a wrapper. `reason` is the number of the reason, from
+/// 1 to 8.
+#[derive(Drop, Debug)]
+pub struct UnparsedMessage {
+    pub message: u64,
+    pub reason: u8,
+}
+
 impl Keyed for MessageRow {
     ghost use Rattle.row_tables.specs.Keys.{message_key};
 
@@ -66,5 +74,15 @@ impl Keyed for HeaderField {
             place: self.place as u64,
             ..Key::of_number(self.message)
         }
+    }
+}
+
+impl Keyed for UnparsedMessage {
+    ghost use Rattle.row_tables.specs.Keys.{unparsed_message_key};
+
+    ghost key_of = { unparsed_message_key };
+
+    fn key(&self) -> Key<'_> {
+        Key::of_number(self.message)
     }
 }

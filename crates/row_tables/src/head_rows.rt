@@ -1,0 +1,103 @@
+// The calls that give rows of users, mailboxes, subscriptions and counters.
+ghost use Rattle.std.specs.Prelude.{◌≡◌, ◌∷◌, [], Some};
+ghost use Rattle.std.specs.Option.{option_copied};
+ghost use Rattle.ordered_rows.specs.RowKey.{number_key};
+ghost use Rattle.ordered_rows.specs.Listed.{IsInOrder, row_at, rows_from};
+ghost use Rattle.row_tables.specs.Keys.{owned_key, user_key, mailbox_key, subscription_key};
+ghost use Rattle.row_tables.specs.References.{subscriptions_of};
+
+use crate::heads::{Counters, Mailbox, Subscription, User};
+use crate::keys::owned;
+use crate::tables::Tables;
+use ordered_rows::{Key, Numbered, Rows};
+use std::slice;
+
+impl Tables {
+    pub fn users_row(&self, key: u32) -> Option<&User>
+        ensures { option_copied result ≡ row_at user_key (number_key key) self.now.heads.users }
+    {
+        self.users.get(Key::of_number(key as u64))
+    }
+
+    pub fn users_rows(&self) -> Rows<'_, User>
+        ensures rows { result ≡ self.now.heads.users }
+        ensures order { IsInOrder user_key self.now.heads.users }
+    {
+        self.users.rows()
+    }
+
+    pub fn users_rows_from(&self, key: u32) -> Rows<'_, User>
+        ensures rows { result ≡ rows_from user_key (number_key key) self.now.heads.users }
+        ensures order { IsInOrder user_key self.now.heads.users }
+    {
+        self.users.rows_from(Key::of_number(key as u64))
+    }
+
+    pub fn mailboxes_row(&self, key: u32) -> Option<&Mailbox>
+        ensures { option_copied result ≡ row_at mailbox_key (number_key key) self.now.heads.mailboxes }
+    {
+        self.mailboxes.get(Key::of_number(key as u64))
+    }
+
+    pub fn mailboxes_rows(&self) -> Rows<'_, Mailbox>
+        ensures rows { result ≡ self.now.heads.mailboxes }
+        ensures order { IsInOrder mailbox_key self.now.heads.mailboxes }
+    {
+        self.mailboxes.rows()
+    }
+
+    pub fn mailboxes_rows_from(&self, key: u32) -> Rows<'_, Mailbox>
+        ensures rows { result ≡ rows_from mailbox_key (number_key key) self.now.heads.mailboxes }
+        ensures order { IsInOrder mailbox_key self.now.heads.mailboxes }
+    {
+        self.mailboxes.rows_from(Key::of_number(key as u64))
+    }
+
+    /// The key is the owner and the name.
+    pub fn subscriptions_row(&self, key: (u32, &[u8])) -> Option<&Subscription>
+        ensures { option_copied result ≡ row_at subscription_key (owned_key key.entry.0 key.entry.1.now) self.now.heads.subscriptions }
+    {
+        self.subscriptions.get(owned(key.0, key.1))
+    }
+
+    pub fn subscriptions_rows(&self) -> Rows<'_, Subscription>
+        ensures rows { result ≡ self.now.heads.subscriptions }
+        ensures order { IsInOrder subscription_key self.now.heads.subscriptions }
+    {
+        self.subscriptions.rows()
+    }
+
+    /// The key is the owner and the name.
+    pub fn subscriptions_rows_from(&self, key: (u32, &[u8])) -> Rows<'_, Subscription>
+        ensures rows { result ≡ rows_from subscription_key (owned_key key.entry.0 key.entry.1.now) self.now.heads.subscriptions }
+        ensures order { IsInOrder subscription_key self.now.heads.subscriptions }
+    {
+        self.subscriptions.rows_from(owned(key.0, key.1))
+    }
+
+    /// The names to which a user is subscribed, by their bytes.
+    pub fn subscriptions_of(&self, owner: u32) -> Numbered<'_, Subscription>
+        ensures { result ≡ subscriptions_of owner self.now.heads.subscriptions }
+    {
+        self.subscriptions.numbered(owner as u64)
+    }
+
+    /// There is always one row.
+    pub fn counters_row(&self, _key: ()) -> Option<&Counters>
+        ensures { option_copied result ≡ Some self.now.heads.counters }
+    {
+        Some(&self.counters)
+    }
+
+    pub fn counters_rows(&self) -> Rows<'_, Counters>
+        ensures { result ≡ self.now.heads.counters ∷ [] }
+    {
+        Rows::of_slice(slice::from_ref(&self.counters))
+    }
+
+    pub fn counters_rows_from(&self, _key: ()) -> Rows<'_, Counters>
+        ensures { result ≡ self.now.heads.counters ∷ [] }
+    {
+        self.counters_rows()
+    }
+}

@@ -1,0 +1,80 @@
+// The rows of users, of their mailboxes and subscriptions, and the counter of mailbox ids.
+use octets::Octets;
+use ordered_rows::{Key, Keyed};
+
+/// A row of `users`. `verifier` is what a password is tested against.
+#[derive(Drop, Debug)]
+pub struct User {
+    pub id: u32,
+    pub name: Octets,
+    pub verifier: [u8; 32],
+}
+
+/// A row of `mailboxes`. `owner` is a user; `uidnext` the UID for the next message, and 0 once the last is given; `first_recent` the
+/// first UID that no session has seen as recent; `highest` the mailbox's highest mod-sequence (RFC 7162 §3.1.2.1). The id is the
+/// mailbox's UIDVALIDITY (RFC 3501 §2.3.1.1).
+#[derive(Drop, Debug)]
+pub struct Mailbox {
+    pub id: u32,
+    pub owner: u32,
+    pub name: Octets,
+    pub uidnext: u32,
+    pub first_recent: u32,
+    pub highest: u64,
+}
+
+/// A row of `subscriptions`: a name to which a user is subscribed (RFC 3501 §6.3.6), whether a mailbox has it or not.
+#[derive(Drop, Debug)]
+pub struct Subscription {
+    pub owner: u32,
+    pub name: Octets,
+}
+
+/// The one row of `counters`: the id for the next mailbox, 1 at first, and 0 once the last id is given.
+#[derive(Drop, Debug)]
+pub struct Counters {
+    pub next: u32,
+}
+
+impl Keyed for User {
+    ghost use Rattle.row_tables.specs.Keys.{user_key};
+
+    ghost key_of = { user_key };
+
+    fn key(&self) -> Key<'_> {
+        Key::of_number(self.id as u64)
+    }
+}
+
+impl Keyed for Mailbox {
+    ghost use Rattle.row_tables.specs.Keys.{mailbox_key};
+
+    ghost key_of = { mailbox_key };
+
+    fn key(&self) -> Key<'_> {
+        Key::of_number(self.id as u64)
+    }
+}
+
+impl Keyed for Subscription {
+    ghost use Rattle.row_tables.specs.Keys.{subscription_key};
+
+    ghost key_of = { subscription_key };
+
+    fn key(&self) -> Key<'_> {
+        Key {
+            text: self.name.as_slice(),
+            ..Key::of_number(self.owner as u64)
+        }
+    }
+}
+
+impl Keyed for Counters {
+    ghost use Rattle.row_tables.specs.Keys.{counters_key};
+
+    ghost key_of = { counters_key };
+
+    fn key(&self) -> Key<'_> {
+        Key::of_number(0)
+    }
+}
