@@ -1,13 +1,15 @@
 -- A column that is read is the column that was written, and what was written is read again.
-use Rattle.std.proofs.Common.{◌≡◌, ℕ, ◌+◌, ◌^◌, ◌<◌, ◌≤◌, Bool, true, false, cond, ltb, List, [], ◌∷◌, ◌++◌, length, get_or, take, drop, Option, Some, None, refl, sym, ap, subst, ◌∙◌, append_assoc, arith, inl, inr}
-use Rattle.std.specs.Prelude.{if◌then◌else◌}
-use Rattle.std.specs.Int.{Width, w8, w32, w64, byte_len, from_be_bytes, to_be_bytes}
+use Rattle.std.proofs.Common.{◌≡◌, ℕ, ℤ, FitsSigned, ◌+◌, ◌^◌, ◌<◌, ◌≤◌, Bool, true, false, cond, ltb, List, [], ◌∷◌, ◌++◌, length, get_or, take, drop, Option, Some, None, refl, sym, ap, subst, ◌∙◌, append_assoc, arith, inl, inr}
+use Rattle.std.specs.Prelude.{⊤, if◌then◌else◌}
+use Rattle.std.specs.Int.{Width, w8, w16, w32, w64, byte_len, from_be_bytes, to_be_bytes, cast_signed, cast_unsigned}
 use Rattle.std.specs.Option.{option_and_then}
 use Rattle.std.proofs.lemmas.Bool.{cases_lt, ltb-false, le-ltb}
 use Rattle.std.proofs.lemmas.List.{take_at, drop_at, take-append-drop, length-append, length-take, get_or-drop, get_or-take, get_or_past}
-use Rattle.std.proofs.lemmas.Nat.{be_bytes_4, be_bytes_8, from_be_bytes-to_be_bytes_4, from_be_bytes-to_be_bytes_8}
-use Rattle.row_codec.specs.Columns.{Column, number_bytes, text_bytes, number, text, digest, ◌&◌}
-use Rattle.row_codec.specs.Codec.{Codec, front_read, number_read, text_read, both_read, number_codec, text_codec, digest_codec, ◌then◌}
+use Rattle.std.proofs.lemmas.Nat.{be_bytes_2, be_bytes_4, be_bytes_8, from_be_bytes-to_be_bytes_2, from_be_bytes-to_be_bytes_4, from_be_bytes-to_be_bytes_8}
+use Rattle.std.proofs.lemmas.Int.{to_z-of_z, of_z-to_z}
+use Rattle.std.proofs.Math.Facts.{Fits-of_z, sfits_to_z}
+use Rattle.row_codec.specs.Columns.{Column, number_bytes, text_bytes, number, signed, nothing, text, digest, ◌&◌}
+use Rattle.row_codec.specs.Codec.{Codec, mapped, front_read, number_read, text_read, both_read, number_codec, signed_codec, nothing_codec, text_codec, digest_codec, ◌then◌}
 
 abbrev pub IsBytes : List ℕ → Type 0
 IsBytes bytes = (i : ℕ) → get_or bytes i 0 < 256
@@ -85,6 +87,14 @@ wide8 = record {
   below = λ bytes fits. omega (arith, fits 0);
 }
 
+pub wide16 : IsWide w16
+wide16 = record {
+  len = λ n. refl;
+  back = λ bytes len fits. be_bytes_2 bytes _ len fits refl;
+  again = λ n lt. from_be_bytes-to_be_bytes_2 n lt;
+  below = λ bytes fits. omega (arith, fits 0, fits 1);
+}
+
 pub wide32 : IsWide w32
 wide32 = record {
   len = λ n. refl;
@@ -119,6 +129,46 @@ number_takes w wide bytes n rest fits e =
 
 pub number_laws : (w : Width) → IsWide w → Laws (number_codec w)
 number_laws w wide = record { again = λ n rest texts widths. number_again w wide n rest widths; takes = number_takes w wide }
+
+-- ---- signed numbers
+
+-- what is known of a width and its casts
+pub record IsSigned (w : Width) : Type 0 where
+  pub again : (z : ℤ) → FitsSigned w z → cast_signed w (cast_unsigned w z) ≡ z
+  pub below : (z : ℤ) → FitsSigned w z → cast_unsigned w z < 256 ^ byte_len w
+  pub back : (n : ℕ) → n < 256 ^ byte_len w → cast_unsigned w (cast_signed w n) ≡ n
+  pub fits : (n : ℕ) → n < 256 ^ byte_len w → FitsSigned w (cast_signed w n)
+
+pub bits16 : IsSigned w16
+bits16 = record { again = to_z-of_z w16; below = λ z f. (Fits-of_z f).fits; back = λ n lt. of_z-to_z w16 n lt; fits = λ n lt. sfits_to_z (record { fits = lt }) }
+
+pub bits64 : IsSigned w64
+bits64 = record { again = to_z-of_z w64; below = λ z f. (Fits-of_z f).fits; back = λ n lt. of_z-to_z w64 n lt; fits = λ n lt. sfits_to_z (record { fits = lt }) }
+
+signed_again : (w : Width) → IsWide w → IsSigned w → (z : ℤ) (rest : List ℕ) → FitsSigned w z → mapped (λ n. cast_signed w n) (number_read w (number_bytes w (cast_unsigned w z) ++ rest)) ≡ Some (z, rest)
+signed_again w wide bits z rest fits =
+    ap (λ o. mapped (λ n. cast_signed w n) o) (number_again w wide (cast_unsigned w z) rest (bits.below z fits)) ∙ ap (λ x. Some (x, rest)) (bits.again z fits)
+
+signed_takes : (w : Width) → IsWide w → IsSigned w → (bytes : List ℕ) (z : ℤ) (rest : List ℕ) → IsBytes bytes → mapped (λ n. cast_signed w n) (number_read w bytes) ≡ Some (z, rest) → Takes (signed w) bytes z rest
+signed_takes w wide bits bytes z rest fits e =
+    let b = bind_some (number_read w bytes) (λ p. Some (cast_signed w p.0, p.1)) (z, rest) e in
+    let t = number_takes w wide bytes b.0.0 b.0.1 fits b.1 in
+    let parts : bytes ≡ number_bytes w (cast_unsigned w (cast_signed w b.0.0)) ++ b.0.1 = t.parts ∙ ap (λ (n : ℕ). number_bytes w n ++ b.0.1) (sym (bits.back b.0.0 t.widths)) in
+    let whole : Takes (signed w) bytes (cast_signed w b.0.0) b.0.1 = record { parts = parts; texts = tt; widths = bits.fits b.0.0 t.widths; rest_fits = t.rest_fits } in
+    subst (λ (p : ℤ × List ℕ). Takes (signed w) bytes p.0 p.1) (found_is (cast_signed w b.0.0, b.0.1) (z, rest) b.2) whole
+
+pub signed_laws : (w : Width) → IsWide w → IsSigned w → Laws (signed_codec w)
+signed_laws w wide bits = record { again = λ z rest texts widths. signed_again w wide bits z rest widths; takes = signed_takes w wide bits }
+
+-- ---- no column
+
+nothing_takes : (bytes : List ℕ) (x : ⊤) (rest : List ℕ) → IsBytes bytes → nothing_codec.read bytes ≡ Some (x, rest) → Takes nothing bytes x rest
+nothing_takes bytes x rest fits e =
+    let here : Takes nothing bytes tt bytes = record { parts = refl; texts = tt; widths = tt; rest_fits = fits } in
+    subst (λ (p : ⊤ × List ℕ). Takes nothing bytes p.0 p.1) (found_is (tt, bytes) (x, rest) e) here
+
+pub nothing_laws : Laws nothing_codec
+nothing_laws = record { again = λ x rest texts widths. refl; takes = nothing_takes }
 
 -- ---- texts
 

@@ -1,8 +1,8 @@
 -- Columns that are read back. They serve the contracts of private functions alone.
-use Rattle.std.specs.Prelude.{◌≡◌, ℕ, List, length, take, drop, Option, Some, None, nat_lt, if◌then◌else◌}
-use Rattle.std.specs.Int.{Width, w32, byte_len, from_be_bytes}
+use Rattle.std.specs.Prelude.{◌≡◌, ℕ, ℤ, ⊤, List, length, take, drop, Option, Some, None, nat_lt, if◌then◌else◌}
+use Rattle.std.specs.Int.{Width, w32, byte_len, from_be_bytes, cast_signed}
 use Rattle.std.specs.Option.{option_and_then}
-use Rattle.row_codec.specs.Columns.{Column, number, text, digest, ◌&◌}
+use Rattle.row_codec.specs.Columns.{Column, number, signed, nothing, text, digest, ◌&◌}
 
 -- a column, and what reads the value at the front and the rest
 pub record Codec (A : Type 0) : Type 1 where
@@ -34,6 +34,12 @@ both_read a b bytes = option_and_then (λ p. option_and_then (λ q. Some ((p.0, 
 
 abbrev pub number_codec : Width → Codec ℕ
 number_codec w = record { column = number w; read = number_read w }
+
+abbrev pub signed_codec : Width → Codec ℤ
+signed_codec w = record { column = signed w; read = λ bytes. mapped (λ n. cast_signed w n) (number_read w bytes) }
+
+abbrev pub nothing_codec : Codec ⊤
+nothing_codec = record { column = nothing; read = λ bytes. Some (tt, bytes) }
 
 abbrev pub text_codec : Codec (List ℕ)
 text_codec = record { column = text; read = text_read }

@@ -1,6 +1,6 @@
 -- How the values of columns are written.
-use Rattle.std.specs.Prelude.{◌≡◌, ℕ, ◌<◌, ◌^◌, List, ◌++◌, length}
-use Rattle.std.specs.Int.{Width, w32, byte_len, to_be_bytes}
+use Rattle.std.specs.Prelude.{◌≡◌, ℕ, ℤ, ⊤, FitsSigned, ◌<◌, ◌^◌, List, [], ◌++◌, length}
+use Rattle.std.specs.Int.{Width, w32, byte_len, to_be_bytes, cast_unsigned}
 use Rattle.row_tables.specs.Fits.{IsText}
 
 -- A column, or several in their order: the bytes that a value is written as, whether its texts are short enough for
@@ -21,11 +21,19 @@ text_bytes text = number_bytes w32 (length text) ++ text
 abbrev pub number : Width → Column ℕ
 number w = record { bytes = number_bytes w; HasTexts = λ n. Unit {0}; HasWidths = λ n. n < 256 ^ byte_len w }
 
+-- in two's complement
+abbrev pub signed : Width → Column ℤ
+signed w = record { bytes = λ z. number_bytes w (cast_unsigned w z); HasTexts = λ z. Unit {0}; HasWidths = λ z. FitsSigned w z }
+
 abbrev pub text : Column (List ℕ)
 text = record { bytes = text_bytes; HasTexts = IsText; HasWidths = λ t. Unit {0} }
 
 abbrev pub digest : Column (List ℕ)
 digest = record { bytes = λ d. d; HasTexts = λ d. Unit {0}; HasWidths = λ d. length d ≡ 32 }
+
+-- no column: the key of a table that has always one row
+abbrev pub nothing : Column ⊤
+nothing = record { bytes = λ x. []; HasTexts = λ x. Unit {0}; HasWidths = λ x. Unit {0} }
 
 -- one after the other
 infixr 20 ◌&◌

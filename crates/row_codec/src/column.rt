@@ -1,7 +1,7 @@
 // Values that are written in columns.
 ghost use Rattle.std.specs.Prelude.{◌≡◌, ◌++◌, List, ℕ, OnOk, IfOk};
-ghost use Rattle.std.specs.Int.{w8, w32, w64};
-ghost use Rattle.row_codec.specs.Codec.{Codec, Reads, number_codec, text_codec, digest_codec, ◌then◌};
+ghost use Rattle.std.specs.Int.{w8, w16, w32, w64};
+ghost use Rattle.row_codec.specs.Codec.{Codec, Reads, number_codec, signed_codec, nothing_codec, text_codec, digest_codec, ◌then◌};
 
 use octets::Octets;
 use std::alloc::{AllocError, Global};
@@ -38,6 +38,23 @@ impl Column for u8 {
     }
 }
 
+impl Column for u16 {
+    ghost codec = { number_codec w16 };
+
+    #[tactic(auto, unfolding(crate::specs::Columns::number_bytes))]
+    fn write_to(&self, out: &mut Vec<u8>) -> Result<(), AllocError> {
+        out.extend_from_slice(&self.to_be_bytes())
+    }
+
+    #[tactic(auto, unfolding(crate::specs::Codec::number_read))]
+    fn read_from(_alloc: Global, bytes: &[u8]) -> Result<Option<(u16, &[u8])>, AllocError> {
+        match bytes.split_first_chunk::<2>() {
+            Some((front, rest)) => Ok(Some((u16::from_be_bytes(*front), rest))),
+            None => Ok(None),
+        }
+    }
+}
+
 impl Column for u32 {
     ghost codec = { number_codec w32 };
 
@@ -69,6 +86,48 @@ impl Column for u64 {
             Some((front, rest)) => Ok(Some((u64::from_be_bytes(*front), rest))),
             None => Ok(None),
         }
+    }
+}
+
+impl Column for i16 {
+    ghost codec = { signed_codec w16 };
+
+    fn write_to(&self, out: &mut Vec<u8>) -> Result<(), AllocError> {
+        self.cast_unsigned().write_to(out)
+    }
+
+    fn read_from(alloc: Global, bytes: &[u8]) -> Result<Option<(i16, &[u8])>, AllocError> {
+        match u16::read_from(alloc, bytes)? {
+            Some((bits, rest)) => Ok(Some((bits.cast_signed(), rest))),
+            None => Ok(None),
+        }
+    }
+}
+
+impl Column for i64 {
+    ghost codec = { signed_codec w64 };
+
+    fn write_to(&self, out: &mut Vec<u8>) -> Result<(), AllocError> {
+        self.cast_unsigned().write_to(out)
+    }
+
+    fn read_from(alloc: Global, bytes: &[u8]) -> Result<Option<(i64, &[u8])>, AllocError> {
+        match u64::read_from(alloc, bytes)? {
+            Some((bits, rest)) => Ok(Some((bits.cast_signed(), rest))),
+            None => Ok(None),
+        }
+    }
+}
+
+impl Column for () {
+    ghost codec = { nothing_codec };
+
+    fn write_to(&self, _out: &mut Vec<u8>) -> Result<(), AllocError> {
+        Ok(())
+    }
+
+    fn read_from(_alloc: Global, bytes: &[u8]) -> Result<Option<((), &[u8])>, AllocError> {
+        Ok(Some(((), bytes)))
     }
 }
 

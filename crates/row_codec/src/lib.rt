@@ -3,8 +3,14 @@
 
 mod changes;
 mod column;
+mod contents;
+mod heads;
+mod keys;
 mod lists;
+mod mails;
+mod marks;
 mod row;
+mod values;
 
 pub use lists::{decode, encode, encodings_differ, fitting_texts_have_lengths};
 

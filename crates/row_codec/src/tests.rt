@@ -1,69 +1,115 @@
-ghost use Rattle.std.specs.Prelude.{◌≡◌, IfOk};
-ghost use Rattle.row_codec.specs.Encoding.{HaveTexts};
-
 use super::*;
 use octets::Octets;
-use row_tables::{BodyPart, FieldName, HeaderField, MessageRow, PartNumber, RowChange};
+use row_tables::{FlagName, MailboxMessage, RowChange};
 use std::alloc::{AllocError, Global};
 use std::test::Fail;
 
-fn text(alloc: Global, bytes: &[u8]) -> Result<Octets, AllocError>
-    ensures { IfOk result (λ text. text ≡ bytes.now) }
-{
-    Ok(Octets::new(bytes.to_vec(alloc)?))
+// Whether the bytes are those of one change, which has these bytes.
+fn goes_round(alloc: Global, bytes: &[u8]) -> Result<bool, AllocError> {
+    match decode(alloc, bytes)? {
+        Some(changes) => Ok(changes.len() == 1 && encode(alloc, &changes)?.as_slice() == bytes),
+        None => Ok(false),
+    }
 }
 
-// A row of each table.
-fn rows(alloc: Global) -> Result<Vec<RowChange>, AllocError>
-    ensures { IfOk result (λ changes. HaveTexts changes.items) }
-{
-    let mut changes = Vec::new(alloc);
-    changes.push(RowChange::InsertMessageRow(MessageRow { id: 1, size: 258 }))?;
-    changes.push(RowChange::InsertBodyPart(BodyPart {
-        id: 2,
-        digest: [b'd'; 32],
-        content: text(alloc, b"hi")?,
-    }))?;
-    changes.push(RowChange::InsertPartNumber(PartNumber {
-        message: 1,
-        path: text(alloc, b"1")?,
-        kind: 255,
-        body: 2,
-    }))?;
-    changes.push(RowChange::InsertFieldName(FieldName {
-        id: 1,
-        name: text(alloc, b"x")?,
-    }))?;
-    changes.push(RowChange::InsertHeaderField(HeaderField {
-        message: 1,
-        path: text(alloc, b"")?,
-        place: 0x01020304,
-        name: 5,
-        form: 3,
-        value: text(alloc, b"v")?,
-    }))?;
-    Ok(changes)
+// Of each table an insert, an update and a removal, and the drop of a mailbox. The numbers of the columns are 1, 18, 35 and so on,
+// the signed ones -1, -2 and so on.
+const CHANGES: [&[u8]; 55] = [
+    b"\x01\0\0\0\0\x01\0\0\0\0ffffffffffffffffffffffffffffffff",
+    b"\x01\x01\0\0\0\x01\0\0\0\0ffffffffffffffffffffffffffffffff",
+    b"\x01\x02\0\0\0\x01",
+    b"\x02\0\0\0\0\x01\0\0\0\x12\0\0\0\x01c\0\0\04\0\0\0E\0\0\0\0\0\0\0V",
+    b"\x02\x01\0\0\0\x01\0\0\0\x12\0\0\0\x01c\0\0\04\0\0\0E\0\0\0\0\0\0\0V",
+    b"\x02\x02\0\0\0\x01",
+    b"\x03\0\0\0\0\0\0\0\0\x01\0\0\0\0\0\0\0\x12",
+    b"\x03\x01\0\0\0\0\0\0\0\x01\0\0\0\0\0\0\0\x12",
+    b"\x03\x02\0\0\0\0\0\0\0\x01",
+    b"\x04\0\0\0\0\x01\0\0\0\x12\0\0\0\0\0\0\0#\0\0\0\0\0\0\04\xff\xff\xff\xff\xff\xff\xff\xfb\xff\xfa",
+    b"\x04\x01\0\0\0\x01\0\0\0\x12\0\0\0\0\0\0\0#\0\0\0\0\0\0\04\xff\xff\xff\xff\xff\xff\xff\xfb\xff\xfa",
+    b"\x04\x02\0\0\0\x01\0\0\0\x12",
+    b"\x05\0\0\0\0\x01\0\0\0\x12\0\0\0\0\0\0\0#",
+    b"\x05\x01\0\0\0\x01\0\0\0\x12\0\0\0\0\0\0\0#",
+    b"\x05\x02\0\0\0\x01\0\0\0\x12",
+    b"\x06\0\0\0\0\0\0\0\0\x01\0\0\0\0",
+    b"\x06\x01\0\0\0\0\0\0\0\x01\0\0\0\0",
+    b"\x06\x02\0\0\0\0\0\0\0\x01",
+    b"\x07\0\0\0\0\x01\0\0\0\x12\0\0\0\0\0\0\0#",
+    b"\x07\x01\0\0\0\x01\0\0\0\x12\0\0\0\0\0\0\0#",
+    b"\x07\x02\0\0\0\x01\0\0\0\x12\0\0\0\0\0\0\0#",
+    b"\x08\0\0\0\0\0\0\0\0\x01eeeeeeeeeeeeeeeeeeeeeeeeeeeeeeee\0\0\0\x01c",
+    b"\x08\x01\0\0\0\0\0\0\0\x01eeeeeeeeeeeeeeeeeeeeeeeeeeeeeeee\0\0\0\x01c",
+    b"\x08\x02\0\0\0\0\0\0\0\x01",
+    b"\x09\0\0\0\0\0\0\0\0\x01\0\0\0\0#\0\0\0\0\0\0\04",
+    b"\x09\x01\0\0\0\0\0\0\0\x01\0\0\0\0#\0\0\0\0\0\0\04",
+    b"\x09\x02\0\0\0\0\0\0\0\x01\0\0\0\0",
+    b"\x0a\0\0\0\0\0\0\0\0\x01\0\0\0\0",
+    b"\x0a\x01\0\0\0\0\0\0\0\x01\0\0\0\0",
+    b"\x0a\x02\0\0\0\0\0\0\0\x01",
+    b"\x0b\0\0\0\0\0\0\0\0\x01\0\0\0\0\0\0\0#\0\0\0\0\0\0\04E\0\0\0\x01c",
+    b"\x0b\x01\0\0\0\0\0\0\0\x01\0\0\0\0\0\0\0#\0\0\0\0\0\0\04E\0\0\0\x01c",
+    b"\x0b\x02\0\0\0\0\0\0\0\x01\0\0\0\0\0\0\0#",
+    b"\x0c\0\0\0\0\0\0\0\0\x01\0\0\0\0\0\0\0\x01c\0\0\0\x02ab",
+    b"\x0c\x01\0\0\0\0\0\0\0\x01\0\0\0\0\0\0\0\x01c\0\0\0\x02ab",
+    b"\x0c\x02\0\0\0\0\0\0\0\x01",
+    b"\x0d\0\0\0\0\0\0\0\0\x01\0\0\0\0\0\0\0#\0\0\04E\0\0\0\0\0\0\0V",
+    b"\x0d\x01\0\0\0\0\0\0\0\x01\0\0\0\0\0\0\0#\0\0\04E\0\0\0\0\0\0\0V",
+    b"\x0d\x02\0\0\0\0\0\0\0\x01\0\0\0\0\0\0\0#\0\0\04",
+    b"\x0e\0\0\0\0\0\0\0\0\x01\0\0\0\0\0\0\0#\0\0\0\x02ab\xff\xff\xff\xff\xff\xff\xff\xfb\xff\xff\xff\xff\xff\xff\xff\xfa",
+    b"\x0e\x01\0\0\0\0\0\0\0\x01\0\0\0\0\0\0\0#\0\0\0\x02ab\xff\xff\xff\xff\xff\xff\xff\xfb\xff\xff\xff\xff\xff\xff\xff\xfa",
+    b"\x0e\x02\0\0\0\0\0\0\0\x01\0\0\0\0\0\0\0#",
+    b"\x0f\0\0\0\0\0\0\0\0\x01\0\0\0\0\0\0\0#\0\0\04\0\0\0\0",
+    b"\x0f\x01\0\0\0\0\0\0\0\x01\0\0\0\0\0\0\0#\0\0\04\0\0\0\0",
+    b"\x0f\x02\0\0\0\0\0\0\0\x01\0\0\0\0\0\0\0#\0\0\04",
+    b"\x10\0\0\0\0\0\0\0\0\x01\x12",
+    b"\x10\x01\0\0\0\0\0\0\0\x01\x12",
+    b"\x10\x02\0\0\0\0\0\0\0\x01",
+    b"\x11\0\0\0\0\x01\0\0\0\0",
+    b"\x11\x01\0\0\0\x01\0\0\0\0",
+    b"\x11\x02\0\0\0\x01\0\0\0\0",
+    b"\x12\0\0\0\0\x01",
+    b"\x12\x01\0\0\0\x01",
+    b"\x12\x02",
+    b"\x02\x03\x01\x02\x03\x04",
+];
+
+#[test]
+fn reads_and_writes_each_change_of_each_table(rt: HostRuntime) -> Result<(), Fail> {
+    for bytes in CHANGES {
+        assert!(rt; goes_round(rt.alloc(), bytes)?);
+    }
+    Ok(())
 }
 
 #[test]
-fn writes_and_reads_a_row_of_each_table(rt: HostRuntime) -> Result<(), Fail> {
+fn writes_the_insert_of_a_flag_name(rt: HostRuntime) -> Result<(), Fail> {
     let alloc = rt.alloc();
-    let changes = rows(alloc)?;
-    let parts = [
-        b"\x03\0\0\0\0\0\0\0\0\x01\0\0\0\0\0\0\x01\x02".as_slice(),
-        b"\x08\0\0\0\0\0\0\0\0\x02dddddddddddddddddddddddddddddddd\0\0\0\x02hi".as_slice(),
-        b"\x09\0\0\0\0\0\0\0\0\x01\0\0\0\x011\xff\0\0\0\0\0\0\0\x02".as_slice(),
-        b"\x0a\0\0\0\0\0\0\0\0\x01\0\0\0\x01x".as_slice(),
-        b"\x0b\0\0\0\0\0\0\0\0\x01\0\0\0\0\x01\x02\x03\x04\0\0\0\0\0\0\0\x05\x03\0\0\0\x01v".as_slice(),
-    ];
-    let mut bytes = Vec::new(alloc);
-    for part in parts {
-        bytes.extend_from_slice(part)?;
-    }
-    assert_eq!(rt; encode(alloc, &changes)?.as_slice(), bytes.as_slice());
-    let read = decode(alloc, &bytes)?.unwrap_or(Vec::new(alloc));
-    assert_eq!(rt; read.len(), 5);
-    assert_eq!(rt; encode(alloc, &read)?.as_slice(), bytes.as_slice());
+    let row = FlagName {
+        id: 1,
+        name: Octets::new(b"x".to_vec(alloc)?),
+    };
+    let bytes = encode(alloc, &[RowChange::InsertFlagName(row)])?;
+    assert_eq!(rt;
+        bytes.as_slice(),
+        b"\x06\0\0\0\0\0\0\0\0\x01\0\0\0\x01x".as_slice()
+    );
+    Ok(())
+}
+
+#[test]
+fn writes_signed_columns_in_twos_complement(rt: HostRuntime) -> Result<(), Fail> {
+    let row = MailboxMessage {
+        mailbox: 1,
+        uid: 2,
+        message: 3,
+        modseq: 4,
+        seconds: i64::MIN,
+        zone: -90,
+    };
+    let bytes = encode(rt.alloc(), &[RowChange::UpdateMailboxMessage(row)])?;
+    assert_eq!(rt;
+        bytes.as_slice(),
+        b"\x04\x01\0\0\0\x01\0\0\0\x02\0\0\0\0\0\0\0\x03\0\0\0\0\0\0\0\x04\x80\0\0\0\0\0\0\0\xff\xa6".as_slice()
+    );
     Ok(())
 }
 
@@ -75,9 +121,10 @@ fn refuses_other_bytes(rt: HostRuntime) -> Result<(), Fail> {
         b"\x0a".as_slice(),
         b"\x0a\0".as_slice(),
         b"\x03\0\0\0\0\0\0\0\0\x01\0\0\0\0\0\0\x01".as_slice(),
-        // no such table, no such operation
-        b"\x04\0\0\0\0\0\0\0\0\x01\0\0\0\x01x".as_slice(),
-        b"\x0a\x01\0\0\0\0\0\0\0\x01\0\0\0\x01x".as_slice(),
+        // no such table, no such operation, and the drop of what is no mailbox
+        b"\x13\0\0\0\0\0\0\0\0\x01\0\0\0\x01x".as_slice(),
+        b"\x0a\x04\0\0\0\0\0\0\0\x01\0\0\0\x01x".as_slice(),
+        b"\x01\x03\0\0\0\x01".as_slice(),
         // lengths past the end
         b"\x0a\0\0\0\0\0\0\0\0\x01\0\0\0\x02x".as_slice(),
         b"\x0a\0\0\0\0\0\0\0\0\x01\xff\xff\xff\xffx".as_slice(),
