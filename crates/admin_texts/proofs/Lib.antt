@@ -1,1 +1,2 @@
 mod OneEnd
+mod Spread

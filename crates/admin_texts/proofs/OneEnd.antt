@@ -1,5 +1,5 @@
 -- Lines and texts end once.
-use Rattle.std.proofs.Common.{◌≡◌, ℕ, ◌^◌, ◌+◌, ◌/◌, ◌%◌, ◌<◌, false, not, List, [], ◌∷◌, ◌++◌, refl, ◌∙◌, arith, ◌==◌, nat_lt, nat_le, ◌&&◌, if◌then◌else◌}
+use Rattle.std.proofs.Common.{◌≡◌, ℕ, suc, pos, negsuc, ◌^◌, ◌+◌, ◌/◌, ◌%◌, ◌<◌, false, not, List, [], ◌∷◌, ◌++◌, refl, ◌∙◌, arith, ◌==◌, nat_lt, nat_le, ◌&&◌, if◌then◌else◌}
 use Rattle.std.specs.Prelude.{codes, decimal, flat_map}
 use Rattle.std.specs.List.{AllByRecursion}
 use Rattle.std.specs.Char.{digit_char}
@@ -8,7 +8,7 @@ use Rattle.std.proofs.lemmas.Bool.Decides.{nat_tests}
 use Rattle.std.proofs.lemmas.List.Folds.{list_all-append}
 use Rattle.std.proofs.lemmas.Fmt.{decimal_by_steps}
 use Rattle.admin_texts.specs.Columns.{Column, hexadecimal, spelled, spaced, line}
-use Rattle.admin_texts.specs.Columns.Column.{number, text, digest}
+use Rattle.admin_texts.specs.Columns.Column.{number, integer, text, digest}
 use Rattle.admin_texts.specs.Laws.{Lacks, HasSmallNumber, LinesEndOnce, TextsEndOnce}
 
 joined : (e : ℕ) (xs ys : List ℕ) → Lacks e xs → Lacks e ys → Lacks e (xs ++ ys)
@@ -57,6 +57,8 @@ decimal_digits n small =
 column_within : (column : Column) → HasSmallNumber column → Lacks 10 (spaced column)
 unfolding spaced
 column_within (number n) small = decimal_digits n small
+column_within (integer (pos n)) small = decimal_digits n (omega (arith, small.sfits))
+column_within (integer (negsuc n)) small = joined 10 (codes "-") (decimal (suc n)) refl (decimal_digits (suc n) (omega (arith, small.sfits)))
 column_within (text bytes) _ = joined 10 (flat_map spelled bytes) (codes "\"") (all_joined 10 spelled (λ c. spelled_byte 10 c (omega arith) refl refl refl refl (λ is _. is)) bytes) refl
 column_within (digest bytes) _ = all_joined 10 hexadecimal (λ c. two_digits 10 c (omega arith)) bytes
 

@@ -1,11 +1,13 @@
 -- Lines of columns.
-use Rattle.std.specs.Prelude.{ℕ, ◌/◌, ◌%◌, ◌==◌, ◌&&◌, nat_le, List, [], ◌∷◌, ◌++◌, flat_map, codes, decimal, if◌then◌else◌}
+use Rattle.std.specs.Prelude.{ℕ, ℤ, ◌/◌, ◌%◌, ◌==◌, ◌&&◌, nat_le, List, [], ◌∷◌, ◌++◌, flat_map, codes, decimal, if◌then◌else◌}
 use Rattle.std.specs.Char.{digit_char}
+use Rattle.std.specs.Fmt.{signed_decimal}
 use Rattle.std.specs.Str.{byte}
 
--- What stands in a column: a number, a text of bytes, or the bytes of a digest.
+-- What stands in a column: a number, one that may be negative, a text of bytes, or the bytes of a digest.
 pub data Column : Type 0 where
   number : ℕ → Column
+  integer : ℤ → Column
   text : List ℕ → Column
   digest : List ℕ → Column
 
@@ -26,6 +28,7 @@ spelled c =
 
 abbrev pub printed : Column → List ℕ
 printed (number n) = decimal n
+printed (integer z) = signed_decimal z
 printed (text bytes) = codes "\"" ++ flat_map spelled bytes ++ codes "\""
 printed (digest bytes) = flat_map hexadecimal bytes
 

@@ -1,9 +1,10 @@
 -- Lines and texts end where they seem to.
-use Rattle.std.specs.Prelude.{◌≡◌, ℕ, ◌<◌, ◌^◌, ◌==◌, true, not, ⊤, List, ◌++◌, codes, flat_map}
+use Rattle.std.specs.Prelude.{◌≡◌, ℕ, FitsSigned, ◌<◌, ◌^◌, ◌==◌, true, not, ⊤, List, ◌++◌, codes, flat_map}
 use Rattle.std.specs.List.{list_all, AllByRecursion}
 use Rattle.std.specs.Str.{byte}
+use Rattle.std.specs.Int.{w64}
 use Rattle.admin_texts.specs.Columns.{Column, spelled, line}
-use Rattle.admin_texts.specs.Columns.Column.{number, text, digest}
+use Rattle.admin_texts.specs.Columns.Column.{number, integer, text, digest}
 
 -- no byte is the unwanted one
 abbrev pub Lacks : ℕ → List ℕ → Type 0
@@ -11,6 +12,7 @@ Lacks unwanted bytes = list_all (λ c. not (c == unwanted)) bytes ≡ true
 
 abbrev pub HasSmallNumber : Column → Type 0
 HasSmallNumber (number n) = n < 2 ^ 64
+HasSmallNumber (integer z) = FitsSigned w64 z
 HasSmallNumber (text bytes) = ⊤
 HasSmallNumber (digest bytes) = ⊤
 

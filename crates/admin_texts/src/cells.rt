@@ -1,6 +1,7 @@
 // The cells of a row, and their line.
 ghost use Rattle.std.specs.Prelude.{◌≡◌, ◌++◌, ◌<◌, ◌∷◌, [], OnOk, decimal, flat_map, map};
 ghost use Rattle.std.specs.Char.{digit_char};
+ghost use Rattle.std.specs.Fmt.{signed_decimal};
 ghost use Rattle.admin_texts.specs.Columns.{line, spaced, printed, spelled, hexadecimal};
 ghost use Rattle.admin_texts.specs.Cells.{column_of};
 ghost use Rattle.admin_texts.specs.Columns.Column.{text};
@@ -12,6 +13,7 @@ use std::alloc::AllocError;
 #[derive(Clone, Copy)]
 pub(crate) enum Cell<'a> {
     Number(u64),
+    Integer(&'a i64),
     Text(&'a [u8]),
     Digest(&'a [u8; 32]),
 }
@@ -45,6 +47,7 @@ fn print_cell(out: &mut Vec<u8>, cell: &Cell<'_>) -> Result<(), AllocError>
     out.extend_from_slice(b" ")?;
     match cell {
         Cell::Number(number) => print_number(out, *number),
+        Cell::Integer(number) => print_integer(out, **number),
         Cell::Text(bytes) => print_text(out, bytes),
         Cell::Digest(digest) => print_hexadecimal(out, *digest),
     }
@@ -52,6 +55,13 @@ fn print_cell(out: &mut Vec<u8>, cell: &Cell<'_>) -> Result<(), AllocError>
 
 fn print_number(out: &mut Vec<u8>, number: u64) -> Result<(), AllocError>
     ensures { OnOk result (out.new.items ≡ out.old.items ++ decimal number) }
+{
+    let mut digits = Buffer::new();
+    out.extend_from_slice(digits.format(number).as_bytes())
+}
+
+fn print_integer(out: &mut Vec<u8>, number: i64) -> Result<(), AllocError>
+    ensures { OnOk result (out.new.items ≡ out.old.items ++ signed_decimal number) }
 {
     let mut digits = Buffer::new();
     out.extend_from_slice(digits.format(number).as_bytes())
