@@ -1,0 +1,6 @@
+pub mod Payloads
+pub mod FoundRows
+pub mod NewIds
+pub mod AfterCrash
+pub mod Loads
+pub mod Alone

@@ -1,0 +1,7 @@
+pub mod ThreeFiles
+pub mod Holding
+pub mod Crashes
+pub mod Bodies
+pub mod Kept
+pub mod Loading
+pub mod Refusals
