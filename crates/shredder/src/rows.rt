@@ -1,56 +1,122 @@
-// The rows of a message.
-ghost use Rattle.std.specs.Prelude.{IfOk};
-ghost use Rattle.mime_tree.specs.Plain.{IsPlain};
+// The rows of a mail.
+ghost use Rattle.std.specs.Prelude.{◌≡◌, ◌++◌, ◌∷◌, [], false, length, IfOk, OnOk, IsOk, IsErrOf};
+ghost use Rattle.canon_writer.specs.Printing.{print};
 ghost use Rattle.ordered_rows.specs.Listed.{IsNewNumber};
 ghost use Rattle.row_tables.specs.Keys.{message_key};
-ghost use Rattle.shredder.specs.MessageRows.{TreeFits};
+ghost use Rattle.row_tables.specs.Fits.{CanRun};
+ghost use Rattle.row_tables.specs.declared.change.RowChange.TheVariants.{InsertMessageRow};
+ghost use Rattle.row_store.specs.ThreeFiles.{FaultRose, KeepsDisks};
+ghost use Rattle.row_store.specs.Holding.{stored};
+ghost use Rattle.row_store.specs.Crashes.{Stays};
+ghost use Rattle.row_store.specs.Bodies.{ArePlaced};
+ghost use Rattle.row_store.specs.declared.faults.StoreFault.{StoreFault};
+ghost use Rattle.shredder.specs.Fitting.{TreeFits};
+ghost use Rattle.shredder.specs.MessageRows.{reason_number};
+ghost use Rattle.shredder.specs.Making.{reason_changes};
 ghost use Rattle.shredder.specs.Shredding.{Shreds};
 
-use crate::bodies::{add_body, leaf_bytes};
-use crate::fields::add_fields;
-use crate::names::add_names;
+use crate::laws::row_laws;
+use crate::new_rows::NewRows;
+use crate::trees::add_node;
 use canon_writer::write_message;
-use mime_tree::Message;
-use octets::Octets;
-use ordered_rows::laws::{insertion, keys, new_number};
-use row_tables::{BodyPart, FieldName, HeaderField, MessageRow, PartNumber, RowChange, Tables};
+use disk_model::Disk;
+use mime_tree::{Mail, Reason};
+use ordered_rows::laws::new_number;
+use row_store::{RowStore, StoreFault};
+use row_tables::laws::message_is_unknown;
+use row_tables::{MessageRow, RowChange, Tables, UnparsedMessage};
 use std::alloc::{AllocError, Global};
 
-/// The id of a new message, and the changes that add its rows. Equal field names share one row, with names that are there too, and
-/// so does a body. The changes insert the message first, then its part with its body, then new names, then its fields.
+/// The id of a new message, and the changes that add its rows, which the next commit can make. Equal field names, addresses and
+/// bodies share one row, with those that are there too; the bodies that no row has are placed. The changes insert the message first
+/// and, where it could not be read, the reason; then each part with its body before its fields, each field before the rows of its
+/// value, and a part before the parts within it. A row that is shared is inserted before the first that refers to it.
 ///
-/// The message is plain, and each text and each list in it has at most 4,294,967,295 elements. Takes O(n log r) time for n bytes
-/// and fields over r rows.
-pub fn rows_in(
+/// Each text, each path and each list in the message has at most 4,294,967,295 elements. Takes O(n log r) time for n bytes, fields,
+/// items and parts over r rows.
+pub fn rows_of<D: Disk>(
     alloc: Global,
-    message: &Message,
+    mail: &Mail,
+    store: &mut RowStore<D>,
+) -> Result<(u64, Vec<RowChange>), StoreFault>
+    requires fits { TreeFits mail.now.message }
+    requires usable { store.old.spent ≡ false }
+    requires fresh { store.old.placed ≡ [] }
+    ensures id { IfOk result (λ made. IsNewNumber message_key store.old.tables.mails.messages made.0) }
+    ensures rows { IfOk result (λ made. Shreds store.old.tables made.0 mail.now made.1.items) }
+    ensures fit { IfOk result (λ made. CanRun store.old.tables made.1.items) }
+    ensures placed { IfOk result (λ made. ArePlaced store.new.placed made.1.items) }
+    ensures tables { store.new.tables ≡ store.old.tables }
+    ensures crash { Stays D.told (IsOk result) store.old.files store.new.files (stored store.old.tables) }
+    ensures untouched { store.new.files ≡ store.old.files }
+    ensures goes_on { OnOk result (store.new.spent ≡ false) }
+    ensures failed { IsErrOf result StoreFault.Failed → FaultRose D.told store.old.files store.new.files }
+    ensures disks { KeepsDisks D.told store.old.files store.new.files }
+{
+    row_laws();
+    new_number::<MessageRow>();
+    message_is_unknown();
+    store.is_settled();
+    store.tables().are_whole();
+    let (id, mut changes) = own_rows(alloc, mail, store.tables())?;
+    let mut shared = NewRows::new(alloc, store.tables());
+    add_node(
+        alloc,
+        &mut changes,
+        &mut shared,
+        id,
+        b"",
+        &mail.message,
+        store,
+    )?;
+    Ok((id, changes))
+}
+
+// The id of a new message, and the changes that add the message and its reason.
+fn own_rows(
+    alloc: Global,
+    mail: &Mail,
     tables: &Tables,
 ) -> Result<(u64, Vec<RowChange>), AllocError>
-    requires plain { IsPlain message.now }
-    requires fits { TreeFits message.now }
     ensures id { IfOk result (λ made. IsNewNumber message_key tables.now.mails.messages made.0) }
-    ensures rows { IfOk result (λ made. Shreds tables.now made.0 message.now made.1.items) }
+    ensures rows { IfOk result (λ made. made.1.items
+        ≡ InsertMessageRow (record { id = made.0; size = length (print mail.now.message) }) ∷ reason_changes made.0 mail.now.reason) }
 {
-    tables.are_whole();
-    keys();
-    new_number::<MessageRow>();
-    insertion::<MessageRow>();
-    insertion::<PartNumber>();
-    insertion::<HeaderField>();
-    insertion::<BodyPart>();
-    insertion::<FieldName>();
-    let size = write_message(alloc, message)?.len() as u64;
+    let size = write_message(alloc, &mail.message)?.len() as u64;
     let id = tables.new_message_id();
     let mut changes = Vec::new(alloc);
     changes.push(RowChange::InsertMessageRow(MessageRow { id, size }))?;
-    let body = add_body(alloc, &mut changes, leaf_bytes(&message.body), tables)?;
-    changes.push(RowChange::InsertPartNumber(PartNumber {
-        message: id,
-        path: Octets::new(Vec::new(alloc)),
-        kind: 0,
-        body,
-    }))?;
-    let names = add_names(alloc, &mut changes, &message.fields, tables)?;
-    add_fields(alloc, &mut changes, id, &message.fields, &names)?;
+    push_reason(&mut changes, id, mail.reason)?;
     Ok((id, changes))
+}
+
+// Adds the row of the reason, if the message could not be read.
+fn push_reason(
+    changes: &mut Vec<RowChange>,
+    message: u64,
+    reason: Option<Reason>,
+) -> Result<(), AllocError>
+    ensures { OnOk result (changes.new.items ≡ changes.old.items ++ reason_changes message reason) }
+{
+    if let Some(reason) = reason {
+        let reason = number(reason);
+        changes.push(RowChange::InsertUnparsedMessage(UnparsedMessage { message, reason }))?;
+    }
+    Ok(())
+}
+
+// The number of a reason in the table.
+fn number(reason: Reason) -> u8
+    ensures { result ≡ reason_number reason }
+{
+    match reason {
+        Reason::ZeroByte => 1,
+        Reason::LoneReturn => 2,
+        Reason::NoField => 3,
+        Reason::LongHeader => 4,
+        Reason::NoBoundary => 5,
+        Reason::NoDelimiter => 6,
+        Reason::TooDeep => 7,
+        Reason::TooMany => 8,
+    }
 }

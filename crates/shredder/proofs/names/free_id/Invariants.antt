@@ -1,5 +1,0 @@
-use Rattle.std.proofs.Common.{◌-◌, ◌^◌}
-use Rattle.shredder.proofs.names.free_id.Given as goal
-
-abbrev pub decreases-loop-id : goal.decreases-loop-id
-decreases-loop-id l = 2 ^ 64 - l.id
