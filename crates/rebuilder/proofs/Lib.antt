@@ -1,1 +1,6 @@
-pub mod OneTree
+pub mod OneValue
+pub mod OneMail
+pub mod Walks
+pub mod Depths
+pub mod Bodies
+pub mod Children

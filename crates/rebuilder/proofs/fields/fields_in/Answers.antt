@@ -1,24 +1,30 @@
-use Rattle.std.proofs.Common.{◌≡◌, ◌∷◌, ◌++◌, [], List, length, ap, ◌∙◌, subst}
-use Rattle.row_tables.specs.References.{fields_of}
-use Rattle.row_tables.specs.declared.mails.HeaderField.{HeaderField}
-use Rattle.shredder.specs.MessageRows.{AreFieldRows}
-use Rattle.rebuilder.proofs.OneTree.{first_field, walk_on}
+use Rattle.std.proofs.Common.{◌≡◌, ◌∷◌, ◌++◌, [], sym, subst}
+use Rattle.shredder.specs.MessageRows.{IsFieldRow, AreFieldRows}
+use Rattle.rebuilder.proofs.OneValue.{fields_there}
+use Rattle.rebuilder.proofs.Walks.{field_by_field, next_one, gone_on, ended}
 use Rattle.rebuilder.proofs.fields.fields_in.Goals as goal
 
 pub field_in-requires : goal.field_in-requires
 field_in-requires c =
-    let names = c.args.tables.now.shared.field_names in
-    let i = c.rows.invariant in
-    let left = subst (AreFieldRows names (length i.0) i.1) c.in-Some.ensures.steps i.4 in
-    let first = first_field names (length i.0) i.1 c.in-Some.row.now c.next.new.self left in
-    (first.0.name, first.2.name)
+    let t = c.args.tables.now in
+    let m = c.args.message in
+    let p = c.args.path.now in
+    let first = next_one (IsFieldRow t m p) (AreFieldRows t m p) (field_by_field t m p) _ _ _ _ _ c.rows.invariant c.in-Some.ensures.steps in
+    (first.value, subst (λ n. IsFieldRow t m p n first.value c.in-Some.row.now) (sym first.row.at) first.row)
 
 pub rows-preserved : goal.rows-preserved
 rows-preserved c =
-    let names = c.args.tables.now.shared.field_names in
-    let i = c.rows.invariant in
-    let all = fields_of c.args.message c.args.tables.now.mails.header_fields in
-    let left = subst (AreFieldRows names (length i.0) i.1) c.in-Some.ensures.steps i.4 in
-    let walk = walk_on names all i.0 c.next.new.self c.in-Some.row.now i.1 c.rows.fields.items c.in_ok-field_in.field-0 (i.2 ∙ ap (λ (l : List HeaderField). i.0 ++ l) c.in-Some.ensures.steps) i.3 left c.in_ok-field_in.ensures.name c.in_ok-field_in.ensures.value in
-    let pushed : c.push.new.self.items ≡ c.rows.fields.items ++ c.in_ok-field_in.field-0 ∷ [] = c.in_ok-push.ensures.items in
-    (walk.0, walk.1, walk.2, rw pushed walk.3, walk.4)
+    let t = c.args.tables.now in
+    let m = c.args.message in
+    let p = c.args.path.now in
+    let read = c.in_ok-field_in.field-0 in
+    let pushed : c.push.new.self.items ≡ c.rows.fields.items ++ read ∷ [] = c.in_ok-push.ensures.items in
+    let first = next_one (IsFieldRow t m p) (AreFieldRows t m p) (field_by_field t m p) _ _ _ _ _ c.rows.invariant c.in-Some.ensures.steps in
+    rw pushed (gone_on (IsFieldRow t m p) (AreFieldRows t m p) (field_by_field t m p) _ _ _ _ _ read c.rows.invariant c.in-Some.ensures.steps (subst (λ n. IsFieldRow t m p n read c.in-Some.row.now) first.row.at c.in_ok-field_in.ensures))
+
+pub returns : goal.returns
+returns c =
+    let t = c.args.tables.now in
+    let m = c.args.message in
+    let p = c.args.path.now in
+    fields_there t m p c.requires.0 c.rows.fields.items c.requires.1 (ended (IsFieldRow t m p) (AreFieldRows t m p) (field_by_field t m p) _ _ _ c.rows.invariant c.in_default.ensures.steps.0)

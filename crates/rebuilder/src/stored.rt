@@ -1,0 +1,70 @@
+// Mails from the rows of a store.
+ghost use Rattle.std.specs.Prelude.{◌≡◌, false, IfOk, OnOk, IsOk, IsErrOf};
+ghost use Rattle.canon_writer.specs.Printing.{print};
+ghost use Rattle.mime_tree.specs.declared.reasons.Mail.{Mail};
+ghost use Rattle.row_store.specs.ThreeFiles.{FaultRose, KeepsDisks};
+ghost use Rattle.row_store.specs.Holding.{stored};
+ghost use Rattle.row_store.specs.Crashes.{Stays};
+ghost use Rattle.row_store.specs.declared.faults.StoreFault.{StoreFault};
+ghost use Rattle.shredder.specs.MessageRows.{HasRows};
+ghost use Rattle.rebuilder.specs.Rebuilding.{HasMail, top_fields};
+
+use crate::mails::{header_in, tree_in};
+use canon_writer::write_message;
+use disk_model::Disk;
+use mime_tree::{Field, Message};
+use row_store::{RowStore, StoreFault};
+use std::alloc::{AllocError, Global};
+
+/// The message of the mail whose rows the message with the id has. Takes time in its length, and O(log r) for each part, field and
+/// item of a field over r rows. Bodies have their content in their rows, so no disk is called.
+pub fn tree<D: Disk>(alloc: Global, store: &mut RowStore<D>, id: u64) -> Result<Message, StoreFault>
+    requires usable { store.old.spent ≡ false }
+    requires there { HasMail store.old.tables id }
+    ensures tree { IfOk result (λ message. (mail : Mail) → HasRows store.old.tables id mail → message ≡ mail.message) }
+    ensures tables { store.new.tables ≡ store.old.tables }
+    ensures placed { store.new.placed ≡ store.old.placed }
+    ensures crash { Stays D.told (IsOk result) store.old.files store.new.files (stored store.old.tables) }
+    ensures untouched { store.new.files ≡ store.old.files }
+    ensures goes_on { OnOk result (store.new.spent ≡ false) }
+    ensures failed { IsErrOf result StoreFault.Failed → FaultRose D.told store.old.files store.new.files }
+    ensures disks { KeepsDisks D.told store.old.files store.new.files }
+{
+    store.is_settled();
+    Ok(tree_in(alloc, store.tables(), id)?)
+}
+
+/// The canonical text of that message.
+pub fn message<D: Disk>(
+    alloc: Global,
+    store: &mut RowStore<D>,
+    id: u64,
+) -> Result<Vec<u8>, StoreFault>
+    requires usable { store.old.spent ≡ false }
+    requires there { HasMail store.old.tables id }
+    ensures text { IfOk result (λ text. (mail : Mail) → HasRows store.old.tables id mail → text.items ≡ print mail.message) }
+    ensures tables { store.new.tables ≡ store.old.tables }
+    ensures placed { store.new.placed ≡ store.old.placed }
+    ensures crash { Stays D.told (IsOk result) store.old.files store.new.files (stored store.old.tables) }
+    ensures untouched { store.new.files ≡ store.old.files }
+    ensures goes_on { OnOk result (store.new.spent ≡ false) }
+    ensures failed { IsErrOf result StoreFault.Failed → FaultRose D.told store.old.files store.new.files }
+    ensures disks { KeepsDisks D.told store.old.files store.new.files }
+{
+    let message = tree(alloc, store, id)?;
+    Ok(write_message(alloc, &message)?)
+}
+
+/// The header fields of the message itself, in their order. Neither the rows of its parts nor those of bodies are looked at, and no
+/// disk is called.
+pub fn header<D: Disk>(
+    alloc: Global,
+    store: &RowStore<D>,
+    id: u64,
+) -> Result<Vec<Field>, AllocError>
+    requires usable { store.now.spent ≡ false }
+    requires there { HasMail store.now.tables id }
+    ensures { IfOk result (λ fields. (mail : Mail) → HasRows store.now.tables id mail → fields.items ≡ top_fields mail.message) }
+{
+    Ok(header_in(alloc, store.tables(), id)?)
+}
