@@ -9,3 +9,4 @@ pub mod Reached
 pub mod Progress
 pub mod Transfers
 pub mod Readings
+pub mod StoreFiles

@@ -8,36 +8,33 @@ use Rattle.std.proofs.lemmas.Bool.Decides.{nat_tests}
 use Rattle.port_model.specs.declared.events.Event.{Event}
 use Rattle.port_model.specs.Script.{script_events}
 use Rattle.port_model.specs.Transcript.{session_lines}
-use Rattle.mime_tree.specs.Trees.{Tree}
-use Rattle.mime_tree.specs.declared.reasons.Reason.{Reason}
-use Rattle.header_reader.specs.Reading.{outcome}
-use Rattle.mail_server.specs.Run.{ReadsUpTo, End, limit_of, end_of, end_of_long, end_of_text, end_of_events, end_of_message, transcript_of}
+use Rattle.mail_server.specs.Run.{ReadsUpTo, End, limit_of, end_of, end_of_long, end_of_text, end_of_events, transcript_of}
 use Rattle.mail_server.specs.declared.words.Task.{Task}
 use Rattle.mail_server.specs.declared.words.Task.TheVariants.{Script, Canon}
-use Rattle.mail_server.specs.declared.status.Status.TheVariants.{Done, Usage, ReadFault, WriteFault}
+use Rattle.mail_server.specs.declared.status.Status.TheVariants.{Done, Usage, ReadFault, WriteFault, StoreFault, NotAStore}
 
-pub end-long : (task : Task) (text : List ℕ) → limit_of task < length text → end_of task text ≡ end_of_long task
+pub end-long : (task : Task) (text : List ℕ) (now : ℕ) → limit_of task < length text → end_of task text now ≡ end_of_long task
 unfolding end_of
-end-long task text le = let e : nat_lt (limit_of task) (length text) ≡ true = grind (arith, nat_tests, le) in rw e refl
+end-long task text now le = let e : nat_lt (limit_of task) (length text) ≡ true = grind (arith, nat_tests, le) in rw e refl
 
-pub end-short : (task : Task) (text : List ℕ) → length text ≤ limit_of task → end_of task text ≡ end_of_text task text
+pub end-short : (task : Task) (text : List ℕ) (now : ℕ) → length text ≤ limit_of task → end_of task text now ≡ end_of_text task text now
 unfolding end_of
-end-short task text le = let e : nat_lt (limit_of task) (length text) ≡ false = grind (arith, nat_tests, le) in rw e refl
+end-short task text now le = let e : nat_lt (limit_of task) (length text) ≡ false = grind (arith, nat_tests, le) in rw e refl
 
 -- what was read ends a run as the whole text does
-pub end-read : (task : Task) (text bytes : List ℕ) (new : Option (List ℕ)) → ReadsUpTo (limit_of task) bytes (Some text) new → end_of task bytes ≡ end_of task text
-end-read task text bytes None reads = absurd reads.taken
-end-read task text bytes (Some rest) reads = by_length (nat_le (length bytes) (limit_of task)) refl
+pub end-read : (task : Task) (text bytes : List ℕ) (now : ℕ) (new : Option (List ℕ)) → ReadsUpTo (limit_of task) bytes (Some text) new → end_of task bytes now ≡ end_of task text now
+end-read task text bytes now None reads = absurd reads.taken
+end-read task text bytes now (Some rest) reads = by_length (nat_le (length bytes) (limit_of task)) refl
   where
-    by_length : (b : Bool) → nat_le (length bytes) (limit_of task) ≡ b → end_of task bytes ≡ end_of task text
+    by_length : (b : Bool) → nat_le (length bytes) (limit_of task) ≡ b → end_of task bytes now ≡ end_of task text now
     by_length true is =
         let le : length bytes ≤ limit_of task = grind (arith, nat_tests, is) in
         let e : rest ≡ [] = reads.to_end le in
         let same : text ≡ bytes = reads.taken ∙ ap (λ r. bytes ++ r) e ∙ append-nil bytes in
-        ap (end_of task) (sym same)
+        ap (λ t. end_of task t now) (sym same)
     by_length false is =
         let gt : limit_of task < length bytes = grind (arith, nat_tests, is) in
-        end-long task bytes gt ∙ sym (end-long task text (omega (arith, gt, ap length reads.taken, length-append bytes rest)))
+        end-long task bytes now gt ∙ sym (end-long task text now (omega (arith, gt, ap length reads.taken, length-append bytes rest)))
 
 -- Numbers, and the lines of sessions by their numbers.
 
@@ -67,14 +64,23 @@ one-word f (w ∷ []) word some few is = ap (λ x. f x ∷ []) (sym is)
 one-word f (w ∷ v ∷ vs) word some few is = absurd (omega arith)
 
 -- What holds of what was read says of the whole text, where it is told.
-pub IfSome-read : (task : Task) (limit : ℕ) (old new : Option (List ℕ)) (bytes : List ℕ) → limit ≡ limit_of task → ReadsUpTo limit bytes old new
-    → (P : End → Type 0) → P (end_of task bytes) → IfSome old (λ text. P (end_of task text))
-IfSome-read task limit None new bytes is reads P fact = tt
-IfSome-read task limit (Some text) new bytes is reads P fact = subst P (end-read task text bytes new (subst (λ (n : ℕ). ReadsUpTo n bytes (Some text) new) is reads)) fact
+pub IfSome-read : (task : Task) (limit now : ℕ) (old new : Option (List ℕ)) (bytes : List ℕ) → limit ≡ limit_of task → ReadsUpTo limit bytes old new
+    → (P : End → Type 0) → P (end_of task bytes now) → IfSome old (λ text. P (end_of task text now))
+IfSome-read task limit now None new bytes is reads P fact = tt
+IfSome-read task limit now (Some text) new bytes is reads P fact = subst P (end-read task text bytes now new (subst (λ (n : ℕ). ReadsUpTo n bytes (Some text) new) is reads)) fact
+
+-- what holds of a told text, at each moment
+pub IfSome-all : (old : Option (List ℕ)) (P : ℕ → List ℕ → Type 0) → ((now : ℕ) → IfSome old (P now)) → IfSome old (λ text. (now : ℕ) → P now text)
+IfSome-all None P fact = tt
+IfSome-all (Some text) P fact = fact
+
+pub IfSome-map : (old : Option (List ℕ)) (P Q : List ℕ → Type 0) → ((text : List ℕ) → P text → Q text) → IfSome old P → IfSome old Q
+IfSome-map None P Q more fact = tt
+IfSome-map (Some text) P Q more fact = more text fact
 
 -- a text by which a run is done isn't too long
-pub short-done : (task : Task) (bytes : List ℕ) → Done ≡ (end_of task bytes).status → length bytes ≤ limit_of task
-short-done task bytes done = by_length (nat_le (length bytes) (limit_of task)) refl
+pub short-done : (task : Task) (bytes : List ℕ) (now : ℕ) → Done ≡ (end_of task bytes now).status → length bytes ≤ limit_of task
+short-done task bytes now done = by_length (nat_le (length bytes) (limit_of task)) refl
   where
     long-isnt : (task : Task) → (end_of_long task).status ≡ Done → ⊥
     long-isnt Script e = cc
@@ -84,26 +90,32 @@ short-done task bytes done = by_length (nat_le (length bytes) (limit_of task)) r
     by_length true is = grind (arith, nat_tests, is)
     by_length false is =
         let gt : limit_of task < length bytes = grind (arith, nat_tests, is) in
-        absurd (long-isnt task (sym (done ∙ ap (λ (e : End). e.status) (end-long task bytes gt))))
+        absurd (long-isnt task (sym (done ∙ ap (λ (e : End). e.status) (end-long task bytes now gt))))
 
 -- No text ends a run as if the words were bad or a call had failed.
-pub end-isnt : (task : Task) (text : List ℕ) → ((end_of task text).status ≡ Usage → ⊥) × ((end_of task text).status ≡ ReadFault → ⊥) × ((end_of task text).status ≡ WriteFault → ⊥)
+pub end-isnt : (task : Task) (text : List ℕ) (now : ℕ) → ((end_of task text now).status ≡ Usage → ⊥) × ((end_of task text now).status ≡ ReadFault → ⊥) × ((end_of task text now).status ≡ WriteFault → ⊥) × ((end_of task text now).status ≡ StoreFault → ⊥) × ((end_of task text now).status ≡ NotAStore → ⊥)
 unfolding end_of
-end-isnt task text = by_length task (nat_lt (limit_of task) (length text))
+end-isnt task text now = by_length task (nat_lt (limit_of task) (length text))
   where
     Isnt : End → Type 0
-    Isnt end = (end.status ≡ Usage → ⊥) × (end.status ≡ ReadFault → ⊥) × (end.status ≡ WriteFault → ⊥)
+    Isnt end = (end.status ≡ Usage → ⊥) × (end.status ≡ ReadFault → ⊥) × (end.status ≡ WriteFault → ⊥) × (end.status ≡ StoreFault → ⊥) × (end.status ≡ NotAStore → ⊥)
 
     of-events : (said : Result (List Event) ℕ) → Isnt (end_of_events said)
-    of-events (Ok events) = ((λ e. cc), (λ e. cc), (λ e. cc))
-    of-events (Err number) = ((λ e. cc), (λ e. cc), (λ e. cc))
+    of-events (Ok events) = ((λ e. cc), (λ e. cc), (λ e. cc), (λ e. cc), (λ e. cc))
+    of-events (Err number) = ((λ e. cc), (λ e. cc), (λ e. cc), (λ e. cc), (λ e. cc))
 
-    of-message : (said : Result Tree Reason) → Isnt (end_of_message said)
-    of-message (Ok tree) = ((λ e. cc), (λ e. cc), (λ e. cc))
-    of-message (Err reason) = ((λ e. cc), (λ e. cc), (λ e. cc))
-
-    by_length : (task : Task) (long : Bool) → Isnt (cond long (end_of_long task) (end_of_text task text))
-    by_length Script true = ((λ e. cc), (λ e. cc), (λ e. cc))
-    by_length Canon true = ((λ e. cc), (λ e. cc), (λ e. cc))
+    by_length : (task : Task) (long : Bool) → Isnt (cond long (end_of_long task) (end_of_text task text now))
+    by_length Script true = ((λ e. cc), (λ e. cc), (λ e. cc), (λ e. cc), (λ e. cc))
+    by_length Canon true = ((λ e. cc), (λ e. cc), (λ e. cc), (λ e. cc), (λ e. cc))
     by_length Script false = of-events (script_events text)
-    by_length Canon false = of-message (outcome text)
+    by_length Canon false = ((λ e. cc), (λ e. cc), (λ e. cc), (λ e. cc), (λ e. cc))
+
+-- The moment doesn't change how a run ends.
+pub status-same : (task : Task) (text : List ℕ) (now later : ℕ) → (end_of task text now).status ≡ (end_of task text later).status
+unfolding end_of
+status-same task text now later = by_length task (nat_lt (limit_of task) (length text))
+  where
+    by_length : (task : Task) (long : Bool) → (cond long (end_of_long task) (end_of_text task text now)).status ≡ (cond long (end_of_long task) (end_of_text task text later)).status
+    by_length task true = refl
+    by_length Script false = refl
+    by_length Canon false = refl

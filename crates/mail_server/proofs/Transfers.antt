@@ -1,5 +1,5 @@
 -- What reads and writes one after another come to.
-use Rattle.std.proofs.Common.{◌≡◌, ℕ, ◌+◌, ◌-◌, ◌≤◌, List, [], ◌++◌, length, take, drop, refl, sym, ◌∙◌, ap, arith, append_assoc, subst, length-drop, length-take, length-append}
+use Rattle.std.proofs.Common.{◌≡◌, ℕ, ◌+◌, ◌-◌, ◌≤◌, List, [], ◌++◌, length, take, drop, refl, sym, ◌∙◌, ap, arith, append_assoc, subst, length-drop, length-take, length-append, inl}
 use Rattle.std.specs.Prelude.{Option, Some, None, Result, Ok, Err, OnErr}
 use Rattle.std.proofs.lemmas.List.{append-nil, take_all, take_min}
 use Rattle.std.proofs.Math.Seq.{take-add}
@@ -62,6 +62,6 @@ pub OnErr-always : {T E : Type 0} (result : Result T E) (P : Type 0) → P → O
 OnErr-always (Ok value) P fact = tt
 OnErr-always (Err error) P fact = fact
 
-pub WritesText-none : (task : Task) (text old : Option (List ℕ)) → WritesText task text old old
-WritesText-none task None old = record { bytes = []; appended = Appends-none old; front = tt }
-WritesText-none task (Some all) old = record { bytes = []; appended = Appends-none old; front = refl }
+pub WritesText-none : (task : Task) (text readings later old : Option (List ℕ)) → WritesText task text readings later old old
+WritesText-none task None readings later old = record { bytes = []; appended = Appends-none old; front = tt }
+WritesText-none task (Some all) readings later old = record { bytes = []; appended = Appends-none old; front = inl refl }

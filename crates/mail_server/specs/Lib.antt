@@ -9,3 +9,4 @@ pub mod Rounds
 pub mod OnScript
 pub mod Words
 pub mod Run
+pub mod Stores

@@ -5,12 +5,10 @@ use Rattle.port_model.specs.declared.events.Event.{Event}
 use Rattle.port_model.specs.Script.{script_events}
 use Rattle.port_model.specs.Streams.{Appends, Reads as IsReading}
 use Rattle.port_model.specs.Transcript.{session_lines, Extends}
-use Rattle.mime_tree.specs.Trees.{Tree}
-use Rattle.mime_tree.specs.declared.reasons.Reason.{Reason}
-use Rattle.header_reader.specs.Reading.{outcome}
+use Rattle.mime_reader.specs.Wrapping.{mail}
 use Rattle.canon_writer.specs.Printing.{print}
 use Rattle.mail_server.specs.declared.status.Status.{Status}
-use Rattle.mail_server.specs.declared.status.Status.TheVariants.{Done, Usage, NoMemory, ReadFault, WriteFault, Refused, BadScript}
+use Rattle.mail_server.specs.declared.status.Status.TheVariants.{Done, Usage, NoMemory, ReadFault, WriteFault, StoreFault, NotAStore, Refused, BadScript}
 use Rattle.mail_server.specs.declared.words.Task.{Task}
 use Rattle.mail_server.specs.declared.words.Task.TheVariants.{Script, Canon}
 use Rattle.mail_server.specs.Script.{script_machine}
@@ -23,6 +21,8 @@ code_of Usage = 2
 code_of NoMemory = 3
 code_of ReadFault = 4
 code_of WriteFault = 5
+code_of StoreFault = 6
+code_of NotAStore = 7
 code_of Refused = 8
 code_of BadScript = 9
 
@@ -36,7 +36,7 @@ IsEndCode code = (code ≡ 0) ⊎ ((code ≡ 8) ⊎ (code ≡ 9))
 
 -- A run ends with one of these numbers.
 abbrev pub IsCode : ℕ → Type 0
-IsCode code = IsTrue (list_any (λ known. known == code) (0 ∷ 2 ∷ 3 ∷ 4 ∷ 5 ∷ 8 ∷ 9 ∷ []))
+IsCode code = IsTrue (list_any (λ known. known == code) (0 ∷ 2 ∷ 3 ∷ 4 ∷ 5 ∷ 6 ∷ 7 ∷ 8 ∷ 9 ∷ []))
 
 -- How a run ends that nothing comes in between of, and all that it writes.
 pub record End : Type 0 where
@@ -63,9 +63,10 @@ end_of_events (Err number) = record { status = BadScript; lines = bad_line numbe
 
 -- The word `canon`
 
-abbrev pub end_of_message : Result Tree Reason → End
-end_of_message (Ok tree) = record { status = Done; lines = print tree }
-end_of_message (Err reason) = record { status = Refused; lines = codes "refused: unreadable\n" }
+-- The canonical text of a message that arrives at a moment: of the tree that its bytes are, or of the message that stands for
+-- bytes that are none.
+abbrev pub canonical : List ℕ → ℕ → List ℕ
+canonical text now = print (mail text now).message
 
 -- All words
 
@@ -79,13 +80,22 @@ abbrev pub end_of_long : Task → End
 end_of_long Script = record { status = BadScript; lines = codes "bad script: too long\n" }
 end_of_long Canon = record { status = Refused; lines = codes "refused: message too long\n" }
 
-abbrev pub end_of_text : Task → List ℕ → End
-end_of_text Script text = end_of_events (script_events text)
-end_of_text Canon text = end_of_message (outcome text)
+abbrev pub end_of_text : Task → List ℕ → ℕ → End
+end_of_text Script text now = end_of_events (script_events text)
+end_of_text Canon text now = record { status = Done; lines = canonical text now }
 
--- What a text has a run write and end with. That it is too long comes first.
-unfoldable pub end_of : Task → List ℕ → End
-end_of task text = if nat_lt (limit_of task) (length text) then end_of_long task else end_of_text task text
+-- What a text has a run write and end with, at a moment of the clock. That it is too long comes first.
+unfoldable pub end_of : Task → List ℕ → ℕ → End
+end_of task text now = if nat_lt (limit_of task) (length text) then end_of_long task else end_of_text task text now
+
+-- The moment that a run takes from its clock, where its readings tell it. A script has moments of its own.
+abbrev pub TakesMoment : Task → ℕ → Option (List ℕ) → Option (List ℕ) → Type 0
+TakesMoment Script now old new = Unit {0}
+TakesMoment Canon now old new = IsReading now old new
+
+-- What holds at the moment that a run takes.
+abbrev pub AtMoment : Task → Option (List ℕ) → Option (List ℕ) → (ℕ → Type 0) → Type 0
+AtMoment task old new P = (now : ℕ) × TakesMoment task now old new × P now
 
 -- What is to be written, and how the run ends then.
 pub record IsAnswer (status : Status) (lines : List ℕ) (end : End) : Type 0 where
@@ -129,19 +139,24 @@ pub record ReadsText (task : Task) (old new : Option (List ℕ)) : Type 0 where
 abbrev pub ReadsWhole : Task → Option (List ℕ) → Option (List ℕ) → Type 0
 ReadsWhole task old new = (bytes : List ℕ) × ReadsUpTo (limit_of task) bytes old new
 
--- What a run writes: a front of what its text has it write, where the source tells the text.
-pub record WritesText (task : Task) (text old new : Option (List ℕ)) : Type 0 where
+-- A front of what a run is to write: none of it yet, or some of it once the moment is taken.
+abbrev pub IsFront : Task → List ℕ → Option (List ℕ) → Option (List ℕ) → List ℕ → Type 0
+IsFront task text old new bytes = (bytes ≡ []) ⊎ AtMoment task old new (λ now. Extends bytes (end_of task text now).lines)
+
+-- What a run writes, with these readings of its clock before and after: a front of what its text has it write, where the source
+-- tells the text.
+pub record WritesText (task : Task) (text readings later old new : Option (List ℕ)) : Type 0 where
   pub bytes : List ℕ
   pub appended : Appends bytes old new
-  pub front : IfSome text (λ all. Extends bytes (end_of task all).lines)
+  pub front : IfSome text (λ all. IsFront task all readings later bytes)
 
 -- Where the source tells the text, the run wrote all that the text has it write.
-abbrev pub WritesAll : Task → Option (List ℕ) → Option (List ℕ) → Option (List ℕ) → Type 0
-WritesAll task text old new = IfSome text (λ all. Appends (end_of task all).lines old new)
+abbrev pub WritesAll : Task → Option (List ℕ) → Option (List ℕ) → Option (List ℕ) → Option (List ℕ) → Option (List ℕ) → Type 0
+WritesAll task text readings later old new = AtMoment task readings later (λ now. IfSome text (λ all. Appends (end_of task all now).lines old new))
 
--- Where the source tells the text, the run ends as the text has it.
+-- Where the source tells the text, the run ends as the text has it, whatever the moment.
 abbrev pub EndsAs : Task → Option (List ℕ) → ℕ → Type 0
-EndsAs task text code = IfSome text (λ all. code ≡ code_of (end_of task all).status)
+EndsAs task text code = IfSome text (λ all. (now : ℕ) → code ≡ code_of (end_of task all now).status)
 
 -- One reading was taken of a clock.
 abbrev pub ReadsClock : Option (List ℕ) → Option (List ℕ) → Type 0

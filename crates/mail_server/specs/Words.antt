@@ -2,12 +2,28 @@
 use Rattle.std.specs.Prelude.{ℕ, List, [], ◌∷◌, Option, Some, None, codes, bytes_eq, if◌then◌else◌}
 use Rattle.mail_server.specs.declared.words.Task.{Task}
 use Rattle.mail_server.specs.declared.words.Task.TheVariants.{Script, Canon}
+use Rattle.mail_server.specs.declared.words.Command.{Command}
+use Rattle.mail_server.specs.declared.words.Command.TheVariants.{OfText, Init, Tables}
 
-abbrev pub task_of_word : List ℕ → Option Task
-task_of_word word = if bytes_eq word (codes "script") then Some Script else (if bytes_eq word (codes "canon") then Some Canon else None)
+abbrev pub command_of_word : List ℕ → Option Command
+command_of_word word =
+    if bytes_eq word (codes "script") then Some (OfText Script)
+    else (if bytes_eq word (codes "canon") then Some (OfText Canon)
+    else (if bytes_eq word (codes "init") then Some Init
+    else (if bytes_eq word (codes "tables") then Some Tables else None)))
 
--- The words that are understood: `script` or `canon`, alone.
+-- The words that are understood: one of these alone.
+abbrev pub command_of : List (List ℕ) → Option Command
+command_of [] = None
+command_of (word ∷ []) = command_of_word word
+command_of (word ∷ next ∷ words) = None
+
+-- what is to be done with the text of the source, if that is read
+abbrev pub of_text : Option Command → Option Task
+of_text None = None
+of_text (Some (OfText task)) = Some task
+of_text (Some Init) = None
+of_text (Some Tables) = None
+
 abbrev pub task_of : List (List ℕ) → Option Task
-task_of [] = None
-task_of (word ∷ []) = task_of_word word
-task_of (word ∷ next ∷ words) = None
+task_of words = of_text (command_of words)

@@ -19,6 +19,7 @@ mod sending;
 mod server;
 mod shared;
 mod status;
+mod stores;
 mod streams;
 #[cfg(test)]
 mod tests;

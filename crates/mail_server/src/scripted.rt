@@ -1,6 +1,6 @@
 //! What a script has written.
 
-ghost use Rattle.std.specs.Prelude.{◌≡◌, Ok, Err, IfOk, false};
+ghost use Rattle.std.specs.Prelude.{ℕ, ◌≡◌, Ok, Err, IfOk, false};
 ghost use Rattle.port_model.specs.History.{sent};
 ghost use Rattle.port_model.specs.Script.{AreEvents};
 ghost use Rattle.mail_server.specs.declared.status.Status.TheVariants.{Done};
@@ -23,7 +23,7 @@ pub(crate) fn answer_script<D>(
     text: &[u8],
     files: Files<D>,
 ) -> (Result<Answer, AllocError>, Files<D>)
-    ensures answers { IfOk result.0 (λ answer. IsAnswer answer.status answer.lines.items (end_of Script text.now)) }
+    ensures answers { (now : ℕ) → IfOk result.0 (λ answer. IsAnswer answer.status answer.lines.items (end_of Script text.now now)) }
     ensures files { result.1 ≡ files }
 {
     if text.len() > MOST_BYTES {

@@ -16,7 +16,11 @@ pub(crate) enum Status {
     ReadFault,
     /// Writing to the sink failed.
     WriteFault,
-    /// The message is refused.
+    /// A disk failed.
+    StoreFault,
+    /// The files hold no store.
+    NotAStore,
+    /// What is asked for is refused.
     Refused,
     /// The script has a bad line or is too long.
     BadScript,
@@ -33,6 +37,8 @@ impl Status {
             Status::NoMemory => 3,
             Status::ReadFault => 4,
             Status::WriteFault => 5,
+            Status::StoreFault => 6,
+            Status::NotAStore => 7,
             Status::Refused => 8,
             Status::BadScript => 9,
         }

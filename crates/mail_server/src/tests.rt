@@ -324,30 +324,67 @@ fn slow_links_are_sent_the_same(rt: HostRuntime) -> Result<(), Fail> {
     Ok(())
 }
 
+/// The canonical text of a message that stands for bytes which came at the first second of 1970.
+fn wrapped(alloc: Global, reason: &str, base64: &str) -> Result<String, AllocError> {
+    format!(in alloc;
+        "Date: Thu, 01 Jan 1970 00:00:00 +0000\r\nSubject: Unreadable message\r\nMIME-Version: 1.0\r\nContent-Type: multipart/mixed; boundary=\"wrapped\"\r\n\r\n--wrapped\r\nContent-Type: text/plain; charset=us-ascii\r\n\r\nThe attached message could not be read: {reason}.\r\n--wrapped\r\nContent-Type: application/octet-stream\r\nContent-Transfer-Encoding: base64\r\nContent-Disposition: attachment; filename=original\r\n\r\n{base64}\r\n\r\n--wrapped--\r\n"
+    )
+}
+
 // Messages, and what `canon` writes of them: folded at 78 bytes a line, each line with its CRLF.
 #[test]
 fn messages_are_written_in_canonical_form(rt: HostRuntime) -> Result<(), Fail> {
-    let unreadable = b"refused: unreadable\n".as_slice();
-    let cases: [(&[u8], u8, &[u8]); 8] = [
-        (b"A:  b\n\nc\n", 0, b"A: b\r\n\r\nc\r\n"),
-        (b"", 0, b"\r\n"),
+    let cases: [(&[u8], &[u8]); 9] = [
+        (b"A:  b\n\nc\n", b"A: b\r\n\r\nc\r\n"),
+        (b"", b"\r\n"),
         // A field that comes twice stays twice, a value that is empty stays so, and blanks at its ends go.
-        (b"A: 1\nA:\t2 \nB:\n\n", 0, b"A: 1\r\nA: 2\r\nB:\r\n\r\n"),
+        (b"A: 1\nA:\t2 \nB:\n\n", b"A: 1\r\nA: 2\r\nB:\r\n\r\n"),
         // Without an empty line all is header, whose continuation is unfolded.
-        (b"A: b\n c\n", 0, b"A: b c\r\n\r\n"),
-        (b"A b\n", 8, unreadable),
-        (b"A: b\n\nc\0", 8, unreadable),
-        (b"A: b\rc\n\n", 8, unreadable),
+        (b"A: b\n c\n", b"A: b c\r\n\r\n"),
         (
             b"A: 3456789 123456789 123456789 123456789 123456789 123456789 123456789 1234567 x  y\n\n",
-            0,
             b"A: 3456789 123456789 123456789 123456789 123456789 123456789 123456789 1234567\r\n x  y\r\n\r\n",
         ),
+        (
+            b"From: ann@x.org (Ann)\n\n",
+            b"From: Ann <ann@x.org>\r\n\r\n",
+        ),
+        (
+            b"To: Team: a@x.org , \"B, C\" <b@x.org>;\nCc: what?\nBcc: undisclosed-recipients:;\n",
+            b"To: Team: a@x.org, \"B, C\" <b@x.org>;\r\nCc: what?\r\nBcc: undisclosed-recipients:;\r\n\r\n",
+        ),
+        (
+            b"Date: 1 Jan 70 00:00 EST\nDate: 31 Feb 2003 10:00:00 +0000\nReferences: <a@x>  <b@x>\n",
+            b"Date: Thu, 01 Jan 1970 00:00:00 -0500\r\nDate: 31 Feb 2003 10:00:00 +0000\r\nReferences: <a@x> <b@x>\r\n\r\n",
+        ),
+        (
+            b"Content-Type: multipart/mixed; boundary=x\n\npre\n--x\n\nhi\n",
+            b"Content-Type: multipart/mixed; boundary=x\r\n\r\n--x\r\n\r\nhi\r\n\r\n--x--\r\n",
+        ),
     ];
-    for (text, status, written) in cases {
+    for (text, written) in cases {
         let (got, lines) = ran(rt.alloc(), "canon", text, &[], &[])?;
-        assert_eq!(rt; got, status);
+        assert_eq!(rt; got, 0);
         assert_eq!(rt; lines.as_slice(), written);
+    }
+    Ok(())
+}
+
+#[test]
+fn unreadable_messages_are_wrapped(rt: HostRuntime) -> Result<(), Fail> {
+    let alloc = rt.alloc();
+    for (text, reason, base64) in [
+        (b"A: b\r\n\r\n\0".as_slice(), "a zero byte", "QTogYg0KDQoA"),
+        (b"A b\n", "a line that is no field", "QSBiCg=="),
+        (b"A: b\rc\n\n", "a lone carriage return", "QTogYg1jCgo="),
+    ] {
+        let expected = wrapped(alloc, reason, base64)?;
+        let (got, lines) = ran(alloc, "canon", text, &[], &[])?;
+        assert_eq!(rt; got, 0);
+        assert_eq!(rt; lines.as_slice(), expected.as_bytes());
+        let (got, again) = ran(alloc, "canon", &lines, &[], &[])?;
+        assert_eq!(rt; got, 0);
+        assert_eq!(rt; again.as_slice(), expected.as_bytes());
     }
     Ok(())
 }
@@ -367,5 +404,117 @@ fn long_messages_are_refused(rt: HostRuntime) -> Result<(), Fail> {
         written.as_slice(),
         b"refused: message too long\n".as_slice()
     );
+    Ok(())
+}
+
+fn disk(alloc: Global, bytes: &[u8], fails: &[u64]) -> Result<MemoryDisk, AllocError> {
+    MemoryDisk::new(alloc, bytes.to_vec(alloc)?, fails.to_vec(alloc)?)
+}
+
+/// The files of a store whose first log has these bytes, and whose calls of these numbers fail.
+fn files_of(alloc: Global, log: &[u8], fails: &[u64]) -> Result<Files<MemoryDisk>, AllocError> {
+    Ok(Files {
+        log0: disk(alloc, log, fails)?,
+        log1: no_disk(alloc)?,
+        bodies: no_disk(alloc)?,
+    })
+}
+
+/// Runs a word on files, and answers the status, what was written, and the files.
+fn on_files(
+    alloc: Global,
+    word: &str,
+    files: Files<MemoryDisk>,
+) -> Result<(u8, Vec<u8>, Files<MemoryDisk>), AllocError> {
+    let mut words = Vec::new(alloc);
+    words.push(word.to_string(alloc)?)?;
+    let mut source = MemorySource::new(alloc, Vec::new(alloc), Vec::new(alloc))?;
+    let mut sink = MemorySink::new(alloc, Vec::new(alloc))?;
+    let mut ports = ScriptPorts::new(alloc, Vec::new(alloc), Vec::new(alloc))?;
+    let (status, files) = run(
+        alloc,
+        &words,
+        &mut source,
+        &mut sink,
+        files,
+        &mut ports,
+        &mut FixedClock::new(0),
+    );
+    Ok((status, sink.written().to_vec(alloc)?, files))
+}
+
+/// What a disk has after its last change.
+fn last_image(alloc: Global, disk: &MemoryDisk) -> Result<Vec<u8>, AllocError> {
+    let mut last = Vec::new(alloc);
+    for moment in 0..64 {
+        let Some(image) = disk.image(moment, b"")? else {
+            break;
+        };
+        last = image;
+    }
+    Ok(last)
+}
+
+const EMPTY_STORE: &[u8] = b"\x01MAILROW\0\0\0\0\0\0\0\0\x01\0";
+
+#[test]
+fn a_store_is_made_once_and_listed(rt: HostRuntime) -> Result<(), Fail> {
+    let alloc = rt.alloc();
+    let (status, written, files) = on_files(alloc, "tables", files_of(alloc, b"", &[])?)?;
+    assert_eq!(rt; status, 7);
+    assert_eq!(rt; written.as_slice(), b"".as_slice());
+    let (status, written, files) = on_files(alloc, "init", files)?;
+    assert_eq!(rt; status, 0);
+    assert_eq!(rt; written.as_slice(), b"".as_slice());
+    assert_eq!(rt; last_image(alloc, &files.log0)?.as_slice(), EMPTY_STORE);
+    assert_eq!(rt; last_image(alloc, &files.log1)?.as_slice(), b"".as_slice());
+    let (status, written, files) = on_files(alloc, "tables", files)?;
+    assert_eq!(rt; status, 0);
+    assert_eq!(rt; written.as_slice(), b"counters 1\n".as_slice());
+    let (status, written, _files) = on_files(alloc, "init", files)?;
+    assert_eq!(rt; status, 8);
+    assert_eq!(rt; written.as_slice(), b"refused: store exists\n".as_slice());
+    Ok(())
+}
+
+#[test]
+fn damaged_files_are_no_store(rt: HostRuntime) -> Result<(), Fail> {
+    let alloc = rt.alloc();
+    let name = b"\x06\0\0\0\0\0\0\0\0\x01\0\0\0\x01x";
+    let mut with_name = EMPTY_STORE[..17].to_vec(alloc)?;
+    with_name.extend_from_slice(b"\x01\0\0\0\0\0\0\0\x0f")?;
+    with_name.extend_from_slice(name)?;
+    with_name.push(0)?;
+    for (log, status, lines) in [
+        (EMPTY_STORE, 0, b"counters 1\n".as_slice()),
+        (&EMPTY_STORE[..17], 7, b""),
+        (b"\x01MAILROW\x01\0\0\0\0\0\0\0\x01\0", 7, b""),
+        (b"\0MAILROW\0\0\0\0\0\0\0\0\x01\0", 7, b""),
+        (&with_name, 0, b"flag_names 1 \"x\"\ncounters 1\n"),
+        (&with_name[..with_name.len() - 1], 7, b""),
+    ] {
+        let (got, written, _files) = on_files(alloc, "tables", files_of(alloc, log, &[])?)?;
+        assert_eq!(rt; got, status);
+        assert_eq!(rt; written.as_slice(), lines);
+    }
+    Ok(())
+}
+
+#[test]
+fn disk_faults_end_the_run(rt: HostRuntime) -> Result<(), Fail> {
+    let alloc = rt.alloc();
+    for (word, log) in [("init", b"".as_slice()), ("tables", EMPTY_STORE)] {
+        let mut is_reached = true;
+        for call in 1..=12 {
+            let (status, _written, _files) = on_files(alloc, word, files_of(alloc, log, &[call])?)?;
+            if status == 6 {
+                assert!(rt; is_reached);
+            } else {
+                assert_eq!(rt; status, 0);
+                assert!(rt; call > 2);
+                is_reached = false;
+            }
+        }
+    }
     Ok(())
 }
