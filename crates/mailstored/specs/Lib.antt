@@ -1,1 +1,1 @@
-pub mod NoDisk
+pub mod FileTold

@@ -1,11 +1,11 @@
--- The meanings of a disk of which nothing is known.
+-- What contracts know of a disk over a real file.
 use Rattle.std.specs.Prelude.{ℕ, None}
 use Rattle.disk_model.specs.Told.{Told}
-use Rattle.mailstored.specs.declared.disk.NoDisk.{NoDisk}
+use Rattle.mailstored.specs.declared.disk.FileDisk.{FileDisk}
 
--- Its reading isn't told, and a crash may leave any bytes.
-abbrev pub no_disk_told : Told NoDisk
-no_disk_told = record {
+-- Its reading isn't told, and a crash may leave any bytes. Its calls that failed are counted, and its reads.
+abbrev pub file_told : {F : Type 0} → Told (FileDisk F)
+file_told = record {
   reading = λ disk. None;
   images = λ disk image. Unit {0};
   moment = λ disk. 0;

@@ -1,6 +1,0 @@
-use Rattle.std.proofs.Common.{refl, arith}
-use Rattle.disk_model.specs.Images.{Torn}
-use Rattle.mailstored.proofs.disk.NoDiskDisk.write_at.Goals as goal
-
-pub returns-clause-images : goal.returns-clause-images
-returns-clause-images c image any = (image, tt, record { kept = λ place lt free. refl; no_shorter = omega arith; no_longer = omega arith })
