@@ -110,15 +110,25 @@ fn may_have_name(alloc: Global, disk: &MemoryDisk, moments: u64) -> Result<bool,
     Ok(with)
 }
 
-// Each of the four calls of a commit fails. After the first two the gate was not opened.
+// Each of the four calls of a commit fails, alone and with all later ones. After the first two the gate was not opened.
 #[test]
 fn is_given_up_where_a_disk_fails(rt: HostRuntime) -> Result<(), Fail> {
     let alloc = rt.alloc();
-    for (call, moments, opened) in [(4, 3, false), (5, 3, false), (6, 5, true), (7, 5, true)] {
-        let (disk, answer) = commits(alloc, &[call])?;
+    let cases: [(&[u64], u64, bool); 8] = [
+        (&[4], 3, false),
+        (&[4, 5, 6, 7], 3, false),
+        (&[5], 3, false),
+        (&[5, 6, 7], 3, false),
+        (&[6], 5, true),
+        (&[6, 7], 5, true),
+        (&[7], 5, true),
+        (&[7, 8], 5, true),
+    ];
+    for (fails, moments, opened) in cases {
+        let (disk, answer) = commits(alloc, fails)?;
         let with = may_have_name(alloc, &disk, moments)?;
         assert_eq!(rt; answer, Err(StoreFault::Failed));
-        assert_eq!(rt; with, opened, "call {call}");
+        assert_eq!(rt; with, opened, "calls {fails:?}");
     }
     Ok(())
 }
