@@ -1,10 +1,10 @@
-# `make demo` runs the proved program on two sessions, on a message and on a store, `make test` the gate. Both build what isn't
-# built. They want the command `rt` on the PATH, and nothing else.
+# `make demo` runs the proved program on two sessions, on a message and on a store, `make test` the gate, `make wrong-bodies` the
+# wrong bodies that the gate leaves out. Each builds what isn't built. They want the command `rt` on the PATH, and Python.
 program = crates/mailstored/out/mailstored
 sources = crates.txt $(shell find crates -path '*/out' -prune -o \( -name '*.rt' -o -name '*.antt' \) -print)
 store = demo/store
 
-.PHONY: demo test
+.PHONY: demo test wrong-bodies
 
 demo: $(program)
 	@rm -rf $(store) && mkdir $(store)
@@ -19,8 +19,11 @@ demo: $(program)
 
 $(program): $(sources)
 	@echo 'proving and building the program: minutes the first time' >&2
-	@folder=$$(mktemp -d) && cd crates/mailstored && { rt run mailstored -- $$folder canon < stdin > out.log 2>&1 || { cat out.log; rm -f out.log $(CURDIR)/$(program); exit 1; }; }
-	@rm -f crates/mailstored/out.log; touch $(program)
+	@tools/build mailstored >&2
+	@touch $(program)
 
 test:
 	@bash .ci/run
+
+wrong-bodies:
+	@tools/wrong-bodies

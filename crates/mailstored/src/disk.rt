@@ -1,21 +1,52 @@
 //! A file as a disk.
 
-ghost use Rattle.std.specs.Prelude.{◌≡◌, ◌≤◌, ◌<◌, ◌+◌, ◌^◌, length, IfOk, OnOk};
+ghost use Rattle.std.specs.Prelude.{◌≡◌, ◌↔◌, ◌≤◌, ◌<◌, ◌+◌, ◌^◌, length, IfOk, OnOk, OnErr, IsOk, true, false};
 ghost use Rattle.fault_counts.specs.Rose.{Rose};
 ghost use Rattle.mailstored.specs.FileTold.{file_told};
 
 use disk_model::{Disk, DiskFault};
 use fault_counts::raised;
+use std::fmt::{self, Display, Formatter};
 use std::fs::OpenFile;
 use std::io::{self, ErrorKind};
 use std::os::unix::fs::FileExt;
 
-/// A disk over an open file. It doesn't tell what the file has.
+/// What a call on a file was to do.
+#[derive(Clone, Copy)]
+pub(crate) enum Action {
+    Measure,
+    Read,
+    Write,
+    Sync,
+}
+
+impl Display for Action {
+    fn fmt<W: fmt::Write>(&self, formatter: &mut Formatter<W>) -> fmt::Result {
+        formatter.pad(match self {
+            Action::Measure => "measured",
+            Action::Read => "read",
+            Action::Write => "written",
+            Action::Sync => "synced",
+        })
+    }
+}
+
+/// A call on a file that failed, and the system's error.
+#[derive(Drop)]
+pub(crate) struct Failure {
+    pub(crate) action: Action,
+    pub(crate) error: io::Error,
+}
+
+/// A disk over an open file. It doesn't tell what the file has. Once a write or a sync failed, every later call fails: the system
+/// may have dropped what it could not write, so that a later sync would say too much.
 #[derive(Drop)]
 pub(crate) struct FileDisk<F> {
     file: F,
     faults: u64,
     reads: u64,
+    failure: Option<Failure>,
+    is_broken: bool,
 }
 
 impl<F> FileDisk<F> {
@@ -24,17 +55,62 @@ impl<F> FileDisk<F> {
             file,
             faults: 0,
             reads: 0,
+            failure: None,
+            is_broken: false,
         }
     }
 
-    /// Counts a call that failed.
-    fn fault(&mut self) -> DiskFault
+    /// The first call that failed, if one did.
+    pub(crate) fn failure(&self) -> Option<&Failure> {
+        self.failure.as_ref()
+    }
+
+    /// Counts a call that failed, and notes the first one.
+    fn fault(&mut self, action: Action, error: io::Error) -> DiskFault
         ensures rose { Rose self.old.faults self.new.faults }
         ensures count { self.old.faults ≤ self.new.faults }
         ensures reads { self.new.reads ≡ self.old.reads }
+        ensures broken { self.new.is_broken ≡ self.old.is_broken }
     {
         self.faults = raised(self.faults);
+        if self.failure.is_none() {
+            self.failure = Some(Failure { action, error });
+        }
         DiskFault
+    }
+
+    /// Nothing where no write and no sync failed yet; else the call is counted as one that failed.
+    fn usable(&mut self, action: Action) -> Result<(), DiskFault>
+        ensures usable { IsOk result ↔ (self.old.is_broken ≡ false) }
+        ensures broken { self.new.is_broken ≡ self.old.is_broken }
+        ensures rose { OnErr result (Rose self.old.faults self.new.faults) }
+        ensures count { self.old.faults ≤ self.new.faults }
+        ensures quiet { OnOk result (self.new.faults ≡ self.old.faults) }
+        ensures reads { self.new.reads ≡ self.old.reads }
+    {
+        if self.is_broken {
+            return Err(self.fault(action, io::Error::from(ErrorKind::Other)));
+        }
+        Ok(())
+    }
+
+    /// Answers what became of a write or a sync, whose failure is final.
+    fn settled(&mut self, action: Action, done: io::Result<()>) -> Result<(), DiskFault>
+        ensures same { IsOk result ↔ IsOk done }
+        ensures lasting { OnErr result (self.new.is_broken ≡ true) }
+        ensures kept { OnOk result (self.new.is_broken ≡ self.old.is_broken) }
+        ensures rose { OnErr result (Rose self.old.faults self.new.faults) }
+        ensures count { self.old.faults ≤ self.new.faults }
+        ensures quiet { OnOk result (self.new.faults ≡ self.old.faults) }
+        ensures reads { self.new.reads ≡ self.old.reads }
+    {
+        match done {
+            Ok(()) => Ok(()),
+            Err(error) => {
+                self.is_broken = true;
+                Err(self.fault(action, error))
+            }
+        }
     }
 }
 
@@ -71,32 +147,32 @@ impl<F: FileExt + OpenFile> Disk for FileDisk<F> {
     ghost told = { file_told };
 
     fn len(&mut self) -> Result<u64, DiskFault> {
+        self.usable(Action::Measure)?;
         match self.file.metadata() {
             Ok(metadata) => Ok(metadata.len()),
-            Err(_error) => Err(self.fault()),
+            Err(error) => Err(self.fault(Action::Measure, error)),
         }
     }
 
     fn read(&mut self, at: u64, buf: &mut [u8]) -> Result<usize, DiskFault> {
         self.reads = raised(self.reads);
+        self.usable(Action::Read)?;
         match read_full(&self.file, at, buf) {
             Ok(n) => Ok(n),
-            Err(_error) => Err(self.fault()),
+            Err(error) => Err(self.fault(Action::Read, error)),
         }
     }
 
     fn write_at(&mut self, at: u64, bytes: &[u8]) -> Result<(), DiskFault> {
-        match write_full(&self.file, at, bytes) {
-            Ok(()) => Ok(()),
-            Err(_error) => Err(self.fault()),
-        }
+        self.usable(Action::Write)?;
+        let written = write_full(&self.file, at, bytes);
+        self.settled(Action::Write, written)
     }
 
     fn sync(&mut self) -> Result<(), DiskFault> {
-        match self.file.sync_all() {
-            Ok(()) => Ok(()),
-            Err(_error) => Err(self.fault()),
-        }
+        self.usable(Action::Sync)?;
+        let synced = self.file.sync_all();
+        self.settled(Action::Sync, synced)
     }
 }
 
@@ -126,7 +202,9 @@ mod tests {
         assert_eq!(rt; disk.write_at(1 << 63, b"x"), Err(DiskFault));
         let mut unwritable = FileDisk::new(File::open(&rt, path)?);
         assert_eq!(rt; unwritable.write_at(0, b"x"), Err(DiskFault));
-        assert_eq!(rt; unwritable.faults, 1);
+        assert_eq!(rt; unwritable.sync(), Err(DiskFault));
+        assert_eq!(rt; unwritable.len(), Err(DiskFault));
+        assert_eq!(rt; unwritable.faults, 3);
         remove_file(&rt, path)?;
         Ok(())
     }

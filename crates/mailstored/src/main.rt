@@ -6,20 +6,17 @@ mod disk;
 mod ports;
 mod sink;
 mod source;
+mod store_files;
 
 use crate::clock::SystemClock;
-use crate::disk::FileDisk;
 use crate::ports::NoPorts;
 use crate::sink::StreamSink;
 use crate::source::StreamSource;
-use disk_model::Files;
+use crate::store_files::{open_files, tell_failures, tell_unusable};
 use std::alloc::{Alloc, AllocGlobal};
 use std::env::{self, Env};
-use std::fs::{self, File, OpenFile, OpenOptions};
-use std::io::{self, ErrorKind, Input, Print, writer};
-use std::os::unix::fs::FileExt;
+use std::io::{ErrorKind, Input, Print, writer};
 use std::process::ExitCode;
-use std::time::Clock;
 
 /// The status where the arguments can't be used.
 const USAGE: u8 = 2;
@@ -58,51 +55,23 @@ fn read_arguments<R: Env + AllocGlobal>(rt: &R) -> Result<Arguments, u8> {
     }
 }
 
-/// Opens a file of the store, and makes it where it isn't there.
-fn open_file<R: AllocGlobal + fs::Files>(
-    rt: &R,
-    folder: &str,
-    name: &str,
-) -> io::Result<FileDisk<R::File>> {
-    let path = format!(in rt.alloc(); "{folder}/{name}")?;
-    let file = OpenOptions::new()
-        .read(true)
-        .write(true)
-        .create(true)
-        .open(rt, path.as_str())?;
-    Ok(FileDisk::new(file))
-}
-
-/// Opens the three files of the store in a folder that is there, and makes sure of their names.
-fn open_files<R: AllocGlobal + fs::Files>(
-    rt: &R,
-    folder: &str,
-) -> io::Result<Files<FileDisk<R::File>>> {
-    let files = Files {
-        log0: open_file(rt, folder, "log0")?,
-        log1: open_file(rt, folder, "log1")?,
-        bodies: open_file(rt, folder, "bodies")?,
-    };
-    File::open(rt, folder)?.sync_all()?;
-    Ok(files)
-}
-
 /// Runs the command over standard input and output and the files of the folder, and answers the status.
-fn run<R: Env + AllocGlobal + Input + Print + Clock + fs::Files>(rt: &R) -> u8
-where
-    R::File: FileExt,
-{
+fn run(rt: &HostRuntime) -> u8 {
     let Arguments { folder, words } = match read_arguments(rt) {
         Ok(arguments) => arguments,
         Err(status) => return status,
     };
-    let Ok(files) = open_files(rt, folder.as_str()) else {
-        return STORE_FAULT;
+    let files = match open_files(rt, folder.as_str()) {
+        Ok(files) => files,
+        Err(why) => {
+            tell_unusable(rt, folder.as_str(), &why);
+            return STORE_FAULT;
+        }
     };
     let mut source = StreamSource::new(rt.reader());
     let mut sink = StreamSink::new(writer(rt));
     let mut clock = SystemClock::new(rt);
-    let (status, _files) = mail_server::run(
+    let (status, files) = mail_server::run(
         rt.alloc(),
         &words,
         &mut source,
@@ -111,6 +80,7 @@ where
         &mut NoPorts {},
         &mut clock,
     );
+    tell_failures(rt, folder.as_str(), &files);
     status
 }
 
