@@ -106,10 +106,11 @@ module _ (s t : State) (at : ℕ) (piece : List ℕ) where
         either
 
 -- a call whose fault was counted
-pub counted : {T : Type 0} (old new : Memory) (result : Result T DiskFault) → old.faults ≤ new.faults → OnErr result (new.faults ≡ min (old.faults + 1) (2 ^ 64 - 1)) → HasCause memory_told old new result
-counted old new result never_falls fault = record {
+pub counted : {T : Type 0} (old new : Memory) (result : Result T DiskFault) → old.faults ≤ new.faults → OnErr result (new.faults ≡ min (old.faults + 1) (2 ^ 64 - 1)) → OnOk result (new.faults ≡ old.faults) → HasCause memory_told old new result
+counted old new result never_falls fault quiet = record {
   never_falls = never_falls;
   rose = on_err_weaker result (λ (is : new.faults ≡ min (old.faults + 1) (2 ^ 64 - 1)). omega (arith, is)) fault;
+  quiet = quiet;
 }
 
 module _ (old new : Memory) (change : Change) (too_far : Bool) (result : Result Unit DiskFault) (attempt : Attempt old new change too_far result) where
@@ -124,6 +125,7 @@ module _ (old new : Memory) (change : Change) (too_far : Bool) (result : Result 
 
   pub has_cause : HasCause memory_told old new result
   has_cause = counted old new result attempt.never_falls attempt.fault
+      (on_ok_weaker result (λ (is : new ≡ record (called old) { changes = old.changes ++ change ∷ [] }). ap (λ (disk : Memory). disk.faults) is) attempt.done)
 
   pub done_state : OnOk result (state_of new ≡ next (state_of old) change)
   done_state = on_ok_weaker result

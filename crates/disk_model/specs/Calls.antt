@@ -1,5 +1,5 @@
 -- What the calls of a disk do, and what runs of them leave.
-use Rattle.std.specs.Prelude.{◌≡◌, ◌⊎◌, ◌↔◌, ℕ, ◌+◌, ◌-◌, ◌≤◌, min, List, ◌++◌, length, take, drop, Result, OnErr}
+use Rattle.std.specs.Prelude.{◌≡◌, ◌⊎◌, ◌↔◌, ℕ, ◌+◌, ◌-◌, ◌≤◌, min, List, ◌++◌, length, take, drop, Result, OnOk, OnErr}
 use Rattle.fault_counts.specs.Rose.{Rose}
 use Rattle.disk_model.specs.Told.{Told, IfTold}
 use Rattle.disk_model.specs.Images.{Only}
@@ -13,10 +13,11 @@ pub record GivesBytes (file : List ℕ) (at count : ℕ) (old new : List ℕ) : 
   pub count_is : count ≡ min (length old) (length file - at)
   pub bytes : take count new ≡ take count (drop at file)
 
--- a fault never comes but with a count that rose, and the count never falls
+-- a fault never comes but with a count that rose, any other answer leaves the count as it was, and the count never falls
 pub record HasCause {D T E : Type 0} (told : Told D) (old new : D) (result : Result T E) : Type 0 where
   pub never_falls : told.faults old ≤ told.faults new
   pub rose : OnErr result (Rose (told.faults old) (told.faults new))
+  pub quiet : OnOk result (told.faults new ≡ told.faults old)
 
 -- what is read and what may be lost is as before, at each moment
 pub record LeavesAlone {D : Type 0} (told : Told D) (old new : D) : Type 0 where

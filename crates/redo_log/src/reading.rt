@@ -34,6 +34,7 @@ pub(crate) fn read_whole<D: Disk>(alloc: Global, disk: &mut D) -> Result<Vec<u8>
     ensures failed { IsErrOf result LoadFault.Failed → Rose (D.told.faults disk.old) (D.told.faults disk.new) }
     ensures not_told { ¬ IsErrOf result LoadFault.NotALog }
     ensures once { IfTold (D.told.reading disk.old) (λ _. D.told.reads disk.new ≤ D.told.reads disk.old + 1) }
+    ensures quiet { (IsErrOf result LoadFault.Failed → ⊥) → D.told.faults disk.new ≡ D.told.faults disk.old }
     ensures never_falls { D.told.faults disk.old ≤ D.told.faults disk.new }
 {
     let len = disk.len()?;

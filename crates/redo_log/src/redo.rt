@@ -52,6 +52,7 @@ impl Log {
         ensures at_rest { OnOk result (IsAtRest D.told disk.new) }
         ensures leaves { LeavesOnly D.told disk.old disk.new (λ image. (before : List ℕ) × D.told.images disk.old before × Torn 0 18 before image) }
         ensures failed { IsErrOf result FormatFault.Failed → Rose (D.told.faults disk.old) (D.told.faults disk.new) }
+        ensures quiet { (IsErrOf result FormatFault.Failed → ⊥) → D.told.faults disk.new ≡ D.told.faults disk.old }
         ensures never_falls { D.told.faults disk.old ≤ D.told.faults disk.new }
         ensures untouched { IsErrOf result FormatFault.NoMemory → disk.new ≡ disk.old }
         ensures same { SameTold (D.told.reading disk.old) (D.told.reading disk.new) }
@@ -70,6 +71,7 @@ impl Log {
         ensures not_a_log { IsErrOf result LoadFault.NotALog → IfTold (D.told.reading disk.new) (λ file. Only file (D.told.images disk.new)
             × ((format generation : ℕ) (payloads : List (List ℕ)) → IsLog format generation payloads file → ⊥)) }
         ensures failed { IsErrOf result LoadFault.Failed → Rose (D.told.faults disk.old) (D.told.faults disk.new) }
+        ensures quiet { (IsErrOf result LoadFault.Failed → ⊥) → D.told.faults disk.new ≡ D.told.faults disk.old }
         ensures never_falls { D.told.faults disk.old ≤ D.told.faults disk.new }
         ensures once { IfTold (D.told.reading disk.old) (λ _. D.told.reads disk.new ≤ D.told.reads disk.old + 1) }
         ensures reading { D.told.reading disk.new ≡ D.told.reading disk.old }
@@ -108,6 +110,7 @@ impl Log {
         ensures goes_on { OnOk result (self.new.spent ≡ false) }
         ensures header { (self.new.format ≡ self.old.format) × (self.new.generation ≡ self.old.generation) }
         ensures failed { IsErrOf result CommitFault.Failed → Rose (D.told.faults disk.old) (D.told.faults disk.new) }
+        ensures quiet { (IsErrOf result CommitFault.Failed → ⊥) → D.told.faults disk.new ≡ D.told.faults disk.old }
         ensures never_falls { D.told.faults disk.old ≤ D.told.faults disk.new }
         ensures untouched { IsErrOf result CommitFault.Spent ⊎ IsErrOf result CommitFault.NoMemory → disk.new ≡ disk.old }
         ensures same { SameTold (D.told.reading disk.old) (D.told.reading disk.new) }

@@ -10,7 +10,7 @@ invariant-loop-count g l = record {
   once : IfTold (g.D.Disk.told.reading l.initial.disk) (λ file. length l.buf ≡ length file
       → (0 < l.count → l.count ≡ length l.buf) × (l.count ≡ 0 → g.D.Disk.told.reads l.disk ≡ g.D.Disk.told.reads l.initial.disk) × (g.D.Disk.told.reads l.disk ≤ g.D.Disk.told.reads l.initial.disk + 1));
   alone : LeavesAlone g.D.Disk.told l.initial.disk l.disk;
-  never_falls : g.D.Disk.told.faults l.initial.disk ≤ g.D.Disk.told.faults l.disk;
+  quiet : g.D.Disk.told.faults l.disk ≡ g.D.Disk.told.faults l.initial.disk;
 }
 
 abbrev pub decreases-loop-count : goal.decreases-loop-count

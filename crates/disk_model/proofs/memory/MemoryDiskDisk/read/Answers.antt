@@ -7,4 +7,4 @@ pub returns-then-fails-clause-cause : goal.returns-then-fails-clause-cause
 returns-then-fails-clause-cause c =
     let same = ap (λ (disk : Memory). disk.faults) c.count_read.ensures ∙ ap (λ (disk : Memory). disk.faults) c.count_call-fails.ensures.counted in
     let more = ap (λ (disk : Memory). disk.faults) c.fault.ensures.counted in
-    counted c.args.self.now c.fault.new.self (Err c.fault.result) (omega (arith, same, c.fault.ensures.never_falls)) (more ∙ ap (λ n. min (n + 1) (2 ^ 64 - 1)) same)
+    counted c.args.self.now c.fault.new.self (Err c.fault.result) (omega (arith, same, c.fault.ensures.never_falls)) (more ∙ ap (λ n. min (n + 1) (2 ^ 64 - 1)) same) tt
