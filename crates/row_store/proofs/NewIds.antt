@@ -15,6 +15,7 @@ use Rattle.row_tables.specs.Keys.{body_part_key}
 use Rattle.row_tables.specs.declared.contents.BodyPart.{BodyPart}
 use Rattle.row_tables.specs.declared.change.RowChange.TheVariants.{InsertBodyPart}
 use Rattle.sha2.specs.Sha256.{sha256}
+use Rattle.row_store.specs.Holding.{in_row}
 use Rattle.row_store.specs.Bodies.{greatest_id, IsNewId, HasBytes, IsThere, IsNewBody, PlacesBytes}
 use Rattle.row_store.proofs.FoundRows.{is_there}
 
@@ -170,8 +171,8 @@ reaches numbers view n rows s t None pos e steps = ap not (sym (none_from number
 reaches numbers view n rows s t (Some x) pos e steps = ap not (sym (some_from numbers n rows t (view x) (sym e ∙ steps)))
 
 pub placed_new : (rows placed new : List BodyPart) (bytes digest : List ℕ) (id : ℕ) (row kept : BodyPart) → row ≡ record { id = id; digest = digest; content = bytes } → kept ≡ record { id = id; digest = digest; content = bytes }
-    → digest ≡ sha256 bytes → IsNewId (rows ++ placed) id → ((other : BodyPart) → IsThere rows placed other → HasBytes other bytes → ⊥) → new ≡ placed ++ kept ∷ []
-    → PlacesBytes rows placed new bytes id (Some (InsertBodyPart row))
+    → digest ≡ sha256 bytes → IsNewId (rows ++ placed) id → ((other : BodyPart) → IsThere rows placed other → HasBytes in_row other bytes → ⊥) → new ≡ placed ++ kept ∷ []
+    → PlacesBytes in_row rows placed new bytes id (Some (InsertBodyPart row))
 placed_new rows placed new bytes digest id row kept e e' d new_id lacking grown =
     let id_is : row.id ≡ id = ap (λ (r : BodyPart). r.id) e in
     let nowhere = new_is_nowhere rows placed id new_id in (

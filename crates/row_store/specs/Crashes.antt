@@ -2,8 +2,8 @@
 use Rattle.std.specs.Prelude.{◌⊎◌, ℕ, ◌≤◌, List, [], ◌∷◌, ◌++◌}
 use Rattle.disk_model.specs.Told.{Told, IfTold}
 use Rattle.disk_model.specs.declared.disk.Files.{Files}
-use Rattle.redo_log.specs.Text.{IsLog}
 use Rattle.row_store.specs.ThreeFiles.{FileBytes, IfRead, IsJointImage, AreAtRest, LogMoments, moments, IsLeftSince}
+use Rattle.row_store.specs.OpenLog.{open_log, HasPayloads}
 use Rattle.row_store.specs.Holding.{Stored, Holds}
 
 -- the files hold one of these states
@@ -30,11 +30,11 @@ pub record LeavesStates {D : Type 0} (told : Told D) (files : Files D) (since : 
 abbrev pub Leaves : {D : Type 0} → Told D → Files D → LogMoments → List Stored → Type 0
 Leaves told files since states = IfRead told files (λ _. LeavesStates told files since states)
 
--- the log has one payload more than before
+-- the open log has one payload more than before
 abbrev pub Appends : {D : Type 0} → Told D → Files D → Files D → List ℕ → Type 0
 Appends told old new payload =
-    IfTold (told.reading old.log0) (λ before. (generation : ℕ) (payloads : List (List ℕ)) → IsLog 0 generation payloads before
-    → IfTold (told.reading new.log0) (IsLog 0 generation (payloads ++ payload ∷ [])))
+    IfTold (told.reading (open_log old)) (λ before. (generation : ℕ) (payloads : List (List ℕ)) → HasPayloads generation payloads before
+    → IfTold (told.reading (open_log new)) (HasPayloads generation (payloads ++ payload ∷ [])))
 
 -- What a call that changes the state leaves of the files, with whatever answer; `done` says that it was Ok. The states of a list
 -- are the newest first.

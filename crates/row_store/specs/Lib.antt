@@ -1,4 +1,5 @@
 pub mod ThreeFiles
+pub mod OpenLog
 pub mod Holding
 pub mod Crashes
 pub mod Bodies

@@ -55,6 +55,17 @@ pub record KeepsDisks {D : Type 0} (told : Told D) (old new : Files D) : Type 0 
   pub faults1 : told.faults old.log1 ≤ told.faults new.log1
   pub faults_bodies : told.faults old.bodies ≤ told.faults new.bodies
 
+-- no disk counted a fault
+abbrev pub CountsNoFault : {D : Type 0} → Told D → Files D → Files D → Type 0
+CountsNoFault told old new =
+    (told.faults new.log0 ≡ told.faults old.log0) × (told.faults new.log1 ≡ told.faults old.log1) × (told.faults new.bodies ≡ told.faults old.bodies)
+
+-- How each call answers for the disks: one that tells of a fault comes only where a count rose, and any other left the counts as they were.
+pub record TellsFaults {D : Type 0} (told : Told D) (tells : Type 0) (old new : Files D) : Type 0 where
+  pub disks : KeepsDisks told old new
+  pub failed : tells → FaultRose told old new
+  pub quiet : (tells → ⊥) → CountsNoFault told old new
+
 -- no disk was read
 abbrev pub ReadsNothing : {D : Type 0} → Told D → Files D → Files D → Type 0
 ReadsNothing told old new =

@@ -8,7 +8,7 @@ ghost use Rattle.ordered_rows.specs.RowKey.{number_key};
 ghost use Rattle.ordered_rows.specs.Listed.{row_at, has_number, IsLeastFree};
 ghost use Rattle.row_tables.specs.Keys.{body_part_key};
 ghost use Rattle.row_tables.specs.declared.contents.BodyPart.{BodyPart};
-ghost use Rattle.row_store.specs.Holding.{content_in};
+ghost use Rattle.row_store.specs.Holding.{stored_by, in_row};
 ghost use Rattle.row_store.specs.Bodies.{HasBytes, IsThere, greatest_id, IsNewId, PlacesBytes};
 ghost use Rattle.row_store.specs.Refusals.{RowHas};
 
@@ -34,7 +34,7 @@ pub(crate) fn place(
     placed: &mut Vec<BodyPart>,
     bytes: &[u8],
 ) -> Result<BodyRef, AllocError>
-    ensures places { IfOk result (λ body. PlacesBytes tables.now.shared.bodyparts placed.old.items placed.new.items bytes.now body.id body.change) }
+    ensures places { IfOk result (λ body. PlacesBytes in_row tables.now.shared.bodyparts placed.old.items placed.new.items bytes.now body.id body.change) }
     ensures err { OnErr result (placed.new.items ≡ placed.old.items) }
 {
     let digest = Sha256::digest(bytes);
@@ -53,7 +53,7 @@ pub(crate) fn place(
 // The content of a body.
 pub(crate) fn body_bytes(alloc: Global, tables: &Tables, id: u64) -> Result<Vec<u8>, AllocError>
     requires { IsSome (row_at body_part_key (number_key id) tables.now.shared.bodyparts) }
-    ensures { IfOk result (λ bytes. content_in tables.now id ≡ Some bytes.items) }
+    ensures { IfOk result (λ bytes. (stored_by in_row tables.now).contents id ≡ Some bytes.items) }
 {
     match tables.bodyparts_row(id) {
         Some(row) => row.content.as_slice().to_vec(alloc),
@@ -75,8 +75,8 @@ fn new_row(alloc: Global, id: u64, digest: [u8; 32], bytes: &[u8]) -> Result<Bod
 // The id of the body that has these bytes, if one is there.
 fn find(tables: &Tables, placed: &[BodyPart], digest: &[u8; 32], bytes: &[u8]) -> Option<u64>
     requires { digest.now ≡ sha256 bytes.now }
-    ensures some { IfSome result (λ id. (body : BodyPart) × IsThere tables.now.shared.bodyparts placed.now body × (body.id ≡ id) × HasBytes body bytes.now) }
-    ensures none { IfNone result ((body : BodyPart) → IsThere tables.now.shared.bodyparts placed.now body → HasBytes body bytes.now → ⊥) }
+    ensures some { IfSome result (λ id. (body : BodyPart) × IsThere tables.now.shared.bodyparts placed.now body × (body.id ≡ id) × HasBytes in_row body bytes.now) }
+    ensures none { IfNone result ((body : BodyPart) → IsThere tables.now.shared.bodyparts placed.now body → HasBytes in_row body bytes.now → ⊥) }
 {
     match find_row(tables, digest, bytes) {
         Some(id) => Some(id),
@@ -113,7 +113,7 @@ fn row_has(tables: &Tables, id: u64, digest: &[u8; 32], bytes: &[u8]) -> bool
 // Whether a body has these bytes and this digest.
 fn has_bytes(body: &BodyPart, digest: &[u8; 32], bytes: &[u8]) -> bool
     requires { digest.now ≡ sha256 bytes.now }
-    ensures { IsTrue result ↔ HasBytes body.now bytes.now }
+    ensures { IsTrue result ↔ HasBytes in_row body.now bytes.now }
 {
     body.digest == *digest && body.content.as_slice() == bytes
 }
@@ -121,8 +121,8 @@ fn has_bytes(body: &BodyPart, digest: &[u8; 32], bytes: &[u8]) -> bool
 // The id of the first placed body that has these bytes.
 fn find_placed(placed: &[BodyPart], digest: &[u8; 32], bytes: &[u8]) -> Option<u64>
     requires { digest.now ≡ sha256 bytes.now }
-    ensures some { IfSome result (λ id. (body : BodyPart) × Contains placed.now body × (body.id ≡ id) × HasBytes body bytes.now) }
-    ensures none { IfNone result ((body : BodyPart) → Contains placed.now body → HasBytes body bytes.now → ⊥) }
+    ensures some { IfSome result (λ id. (body : BodyPart) × Contains placed.now body × (body.id ≡ id) × HasBytes in_row body bytes.now) }
+    ensures none { IfNone result ((body : BodyPart) → Contains placed.now body → HasBytes in_row body bytes.now → ⊥) }
 {
     for body in placed {
         if has_bytes(body, digest, bytes) {

@@ -5,8 +5,9 @@ ghost use Rattle.row_tables.specs.TableRows.{TableRows};
 ghost use Rattle.row_tables.specs.declared.change.RowChange.{RowChange};
 ghost use Rattle.row_tables.specs.Fits.{CanRun, Runs, RunsPart};
 ghost use Rattle.row_codec.specs.Encoding.{HaveWidths, encoding};
-ghost use Rattle.row_store.specs.ThreeFiles.{FaultRose, KeepsDisks, ReadsNothing};
-ghost use Rattle.row_store.specs.Holding.{stored};
+ghost use Rattle.row_store.specs.ThreeFiles.{TellsFaults, ReadsNothing};
+ghost use Rattle.row_store.specs.Holding.{stored_by, in_row};
+ghost use Rattle.row_store.specs.OpenLog.{LeavesOthers};
 ghost use Rattle.row_store.specs.Crashes.{Appends, Commits};
 ghost use Rattle.row_store.specs.Kept.{IsKept};
 
@@ -32,10 +33,10 @@ pub(crate) fn make<D: Disk>(
     ensures appended { OnOk result (Appends D.told files.old files.new (encoding changes.items)) }
     ensures part { OnErr result (RunsPart tables.old changes.items tables.new) }
     ensures crash { (after : TableRows) → Runs tables.old changes.items after
-        → Commits D.told (IsOk result) files.old files.new (stored tables.old) (stored after) }
-    ensures failed { IsErrOf result StoreFault.Failed → FaultRose D.told files.old files.new }
+        → Commits D.told (IsOk result) files.old files.new (stored_by in_row tables.old) (stored_by in_row after) }
+    ensures others { LeavesOthers files.old files.new }
+    ensures faults { TellsFaults D.told (IsErrOf result StoreFault.Failed) files.old files.new }
     ensures untouched { IsErrOf result StoreFault.NoMemory → files.new ≡ files.old }
-    ensures disks { KeepsDisks D.told files.old files.new }
     ensures reads { ReadsNothing D.told files.old files.new }
 {
     fitting_texts_have_lengths();
@@ -52,10 +53,10 @@ fn add<D: Disk>(log: &mut Log, files: &mut Files<D>, payload: &[u8]) -> Result<(
     ensures appended { OnOk result (Appends D.told files.old files.new payload.now) }
     ensures crash { (before after : TableRows) (changes : List RowChange) → IsKept D.told log.old files.old before → HaveWidths changes
         → payload.now ≡ encoding changes → Runs before changes after
-        → Commits D.told (IsOk result) files.old files.new (stored before) (stored after) }
-    ensures failed { IsErrOf result StoreFault.Failed → FaultRose D.told files.old files.new }
+        → Commits D.told (IsOk result) files.old files.new (stored_by in_row before) (stored_by in_row after) }
+    ensures others { LeavesOthers files.old files.new }
+    ensures faults { TellsFaults D.told (IsErrOf result StoreFault.Failed) files.old files.new }
     ensures untouched { IsErrOf result StoreFault.NoMemory → files.new ≡ files.old }
-    ensures disks { KeepsDisks D.told files.old files.new }
     ensures reads { ReadsNothing D.told files.old files.new }
 {
     a_text_says_one_thing();

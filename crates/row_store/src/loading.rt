@@ -5,7 +5,7 @@ ghost use Rattle.fault_counts.specs.Rose.{Rose};
 ghost use Rattle.disk_model.specs.Told.{IfTold};
 ghost use Rattle.disk_model.specs.Images.{Only};
 ghost use Rattle.disk_model.specs.Calls.{IsAtRest, HasCause};
-ghost use Rattle.row_store.specs.ThreeFiles.{FaultRose, KeepsDisks, MakesSure, MakesAllSure};
+ghost use Rattle.row_store.specs.ThreeFiles.{TellsFaults, MakesSure, MakesAllSure};
 ghost use Rattle.row_store.specs.Kept.{IsKept};
 ghost use Rattle.row_store.specs.Loading.{IsNoStore, ReadsLogOnce};
 ghost use Rattle.row_store.specs.Refusals.{refusal_of, IsKeptLog, MakesNone};
@@ -34,9 +34,8 @@ pub(crate) fn read_files<D: Disk>(
 ) -> Result<(Log, Tables), LoadFault>
     ensures kept { IfOk result (λ r. IsKept D.told r.0 files.new r.1) }
     ensures not_a_store { IsErrOf result LoadFault.NotAStore → IsNoStore D.told files.new }
-    ensures failed { IsErrOf result LoadFault.Failed → FaultRose D.told files.old files.new }
+    ensures faults { TellsFaults D.told (IsErrOf result LoadFault.Failed) files.old files.new }
     ensures sure { MakesAllSure D.told files.old files.new }
-    ensures disks { KeepsDisks D.told files.old files.new }
     ensures reads { ReadsLogOnce D.told files.old files.new }
 {
     make_sure(&mut files.log1)?;
@@ -61,6 +60,7 @@ fn read_log<D: Disk>(alloc: Global, disk: &mut D) -> Result<(Log, Tables), LoadF
     ensures failed { IsErrOf result LoadFault.Failed → Rose (D.told.faults disk.old) (D.told.faults disk.new) }
     ensures sure { MakesSure D.told disk.old disk.new }
     ensures once { IfTold (D.told.reading disk.old) (λ _. D.told.reads disk.new ≤ D.told.reads disk.old + 1) }
+    ensures quiet { (IsErrOf result LoadFault.Failed → ⊥) → D.told.faults disk.new ≡ D.told.faults disk.old }
     ensures never_falls { D.told.faults disk.old ≤ D.told.faults disk.new }
 {
     a_text_says_one_thing();

@@ -1,14 +1,13 @@
 //! The store in use.
 
-ghost use Rattle.std.specs.Prelude.{◌≡◌, ◌∷◌, [], ℕ, List, Some, IsSome, option_map, OnOk, OnErr, IfOk, IfErr, IsOk, IsErrOf, true, false};
+ghost use Rattle.std.specs.Prelude.{◌≡◌, ◌∷◌, [], ℕ, List, Some, IsSome, option_map, OnOk, OnErr, IfOk, IfErr, IsOk, IsErrOf, IsErrAnd, true, false};
 ghost use Rattle.ordered_rows.specs.RowKey.{number_key};
 ghost use Rattle.ordered_rows.specs.Listed.{row_at};
 ghost use Rattle.disk_model.specs.Calls.{overwritten, IsAtRest, LeavesOnly};
 ghost use Rattle.disk_model.specs.Images.{Torn};
-ghost use Rattle.redo_log.specs.Text.{empty_text};
 ghost use Rattle.row_codec.specs.Encoding.{encoding};
 ghost use Rattle.row_tables.specs.Keys.{body_part_key};
-ghost use Rattle.row_tables.specs.TableRows.{TableRows, no_rows};
+ghost use Rattle.row_tables.specs.TableRows.{TableRows};
 ghost use Rattle.row_tables.specs.Fits.{CanRun, Runs, RunsPart};
 
 use crate::bodies::{body_bytes, place};
@@ -50,9 +49,11 @@ impl<D: Disk> Model for RowStore<D> {
 }
 
 impl<D: Disk> RowStore<D> {
-    ghost use Rattle.row_store.specs.ThreeFiles.{IfRead, FaultRose, KeepsDisks, ReadsNothing, MakesAllSure, LeavesAllAlone};
-    ghost use Rattle.row_store.specs.Holding.{stored, content_in, Holds};
+    ghost use Rattle.row_store.specs.ThreeFiles.{IfRead, TellsFaults, ReadsNothing, MakesAllSure, LeavesAllAlone};
+    ghost use Rattle.row_store.specs.OpenLog.{open_log, empty_log, LeavesOthers};
+    ghost use Rattle.row_store.specs.Holding.{stored_by, nothing_stored, Holds};
     ghost use Rattle.row_store.specs.Crashes.{IsSettled, JointlyHolds, Appends, Commits, Stays};
+    ghost use Rattle.row_store.specs.Kept.{IfContents, KeepsState};
     ghost use Rattle.row_store.specs.Bodies.{ArePlaced, PlacesBytes};
     ghost use Rattle.row_store.specs.Loading.{files_after, IsNoStore, ReadsLogOnce};
     ghost use Rattle.row_store.specs.declared.faults.StoreFault.{StoreFault};
@@ -61,15 +62,15 @@ impl<D: Disk> RowStore<D> {
     /// Makes an empty store, whatever the files had. It writes the first log alone. A crash or a fault within this call may leave
     /// anything of the log's first 18 bytes.
     pub fn format(alloc: Global, files: &mut Files<D>) -> Result<(), StoreFault>
-        ensures written { OnOk result (D.told.reading files.new.log0 ≡ option_map (overwritten 0 (empty_text 0 1)) (D.told.reading files.old.log0)) }
-        ensures holds { OnOk result (IfRead D.told files.new (λ bytes. Holds bytes no_rows (content_in no_rows))) }
-        ensures joint { OnOk result (JointlyHolds D.told files.new (stored no_rows ∷ [])) }
-        ensures rest { OnOk result (IsAtRest D.told files.new.log0) }
-        ensures leaves { LeavesOnly D.told files.old.log0 files.new.log0 (λ image. (before : List ℕ) × D.told.images files.old.log0 before × Torn 0 18 before image) }
-        ensures others { (files.new.log1 ≡ files.old.log1) × (files.new.bodies ≡ files.old.bodies) }
-        ensures failed { IsErrOf result StoreFault.Failed → FaultRose D.told files.old files.new }
+        ensures written { OnOk result (D.told.reading (open_log files.new) ≡ option_map (overwritten 0 empty_log) (D.told.reading (open_log files.old))) }
+        ensures holds { OnOk result (IfRead D.told files.new (λ bytes. Holds bytes nothing_stored.tables nothing_stored.contents)) }
+        ensures joint { OnOk result (JointlyHolds D.told files.new (nothing_stored ∷ [])) }
+        ensures rest { OnOk result (IsAtRest D.told (open_log files.new)) }
+        ensures leaves { LeavesOnly D.told (open_log files.old) (open_log files.new)
+            (λ image. (before : List ℕ) × D.told.images (open_log files.old) before × Torn 0 18 before image) }
+        ensures others { LeavesOthers files.old files.new }
+        ensures faults { TellsFaults D.told (IsErrOf result StoreFault.Failed) files.old files.new }
         ensures untouched { IsErrOf result StoreFault.NoMemory → files.new ≡ files.old }
-        ensures disks { KeepsDisks D.told files.old files.new }
         ensures reads { ReadsNothing D.told files.old files.new }
     {
         match Log::format(alloc, &mut files.log0, FORMAT, 1) {
@@ -81,12 +82,11 @@ impl<D: Disk> RowStore<D> {
 
     /// Makes sure of what the files have, and loads their tables. Costs one reading of the log; each refusal hands the files back.
     pub fn load(alloc: Global, files: Files<D>) -> Result<RowStore<D>, Unloaded<D>>
-        ensures loaded { IfOk result (λ store. IsSettled D.told store.files (stored store.tables)) }
+        ensures loaded { IfOk result (λ store. IfContents D.told store (λ content. IsSettled D.told store.files (stored_by content store.tables))) }
         ensures fresh { IfOk result (λ store. (store.placed ≡ []) × (store.spent ≡ false)) }
         ensures not_a_store { IfErr result (λ unloaded. unloaded.fault ≡ LoadFault.NotAStore → IsNoStore D.told unloaded.files) }
-        ensures failed { IfErr result (λ unloaded. unloaded.fault ≡ LoadFault.Failed → FaultRose D.told files unloaded.files) }
+        ensures faults { TellsFaults D.told (IsErrAnd result (λ unloaded. unloaded.fault ≡ LoadFault.Failed)) files (files_after result) }
         ensures sure { MakesAllSure D.told files (files_after result) }
-        ensures disks { KeepsDisks D.told files (files_after result) }
         ensures reads { ReadsLogOnce D.told files (files_after result) }
     {
         let mut files = files;
@@ -112,14 +112,14 @@ impl<D: Disk> RowStore<D> {
         ensures made { OnOk result (Runs self.old.tables changes.items self.new.tables) }
         ensures appended { OnOk result (Appends D.told self.old.files self.new.files (encoding changes.items)) }
         ensures forgotten { OnOk result (self.new.placed ≡ []) }
-        ensures crash { (after : TableRows) → Runs self.old.tables changes.items after
-            → Commits D.told (IsOk result) self.old.files self.new.files (stored self.old.tables) (stored after) }
+        ensures crash { IfContents D.told self.old (λ content. (after : TableRows) → Runs self.old.tables changes.items after
+            → Commits D.told (IsOk result) self.old.files self.new.files (stored_by content self.old.tables) (stored_by content after)) }
         ensures part { OnErr result (RunsPart self.old.tables changes.items self.new.tables) }
         ensures goes_on { OnOk result (self.new.spent ≡ false) }
         ensures gives_up { OnErr result (self.new.spent ≡ true) }
-        ensures failed { IsErrOf result StoreFault.Failed → FaultRose D.told self.old.files self.new.files }
+        ensures others { LeavesOthers self.old.files self.new.files }
+        ensures faults { TellsFaults D.told (IsErrOf result StoreFault.Failed) self.old.files self.new.files }
         ensures untouched { IsErrOf result StoreFault.NoMemory → self.new.files ≡ self.old.files }
-        ensures disks { KeepsDisks D.told self.old.files self.new.files }
         ensures reads { ReadsNothing D.told self.old.files self.new.files }
     {
         self.spent = true;
@@ -139,15 +139,12 @@ impl<D: Disk> RowStore<D> {
     /// by the change in the answer, in the next commit. Costs a digest and a look-up, and a look at each placed body.
     pub fn place_body(&mut self, bytes: &[u8]) -> Result<BodyRef, StoreFault>
         requires usable { self.old.spent ≡ false }
-        ensures places { IfOk result (λ body. PlacesBytes self.old.tables.shared.bodyparts self.old.placed self.new.placed bytes.now body.id body.change) }
+        ensures places { IfContents D.told self.new (λ content. IfOk result (λ body.
+            PlacesBytes content self.old.tables.shared.bodyparts self.old.placed self.new.placed bytes.now body.id body.change)) }
         ensures err { OnErr result (self.new.placed ≡ self.old.placed) }
-        ensures tables { self.new.tables ≡ self.old.tables }
-        ensures crash { Stays D.told (IsOk result) self.old.files self.new.files (stored self.old.tables) }
+        ensures keeps { KeepsState D.told (IsOk result) (IsErrOf result StoreFault.Failed) self.old self.new }
         ensures untouched { self.new.files ≡ self.old.files }
-        ensures goes_on { OnOk result (self.new.spent ≡ false) }
         ensures gives_up { OnErr result (self.new.spent ≡ true) }
-        ensures failed { IsErrOf result StoreFault.Failed → FaultRose D.told self.old.files self.new.files }
-        ensures disks { KeepsDisks D.told self.old.files self.new.files }
     {
         self.spent = true;
         let body = place(self.alloc, &self.tables, &mut self.placed, bytes)?;
@@ -159,16 +156,12 @@ impl<D: Disk> RowStore<D> {
     pub fn body(&mut self, id: u64) -> Result<Vec<u8>, StoreFault>
         requires usable { self.old.spent ≡ false }
         requires there { IsSome (row_at body_part_key (number_key id) self.old.tables.shared.bodyparts) }
-        ensures content { IfOk result (λ bytes. content_in self.old.tables id ≡ Some bytes.items) }
-        ensures tables { self.new.tables ≡ self.old.tables }
+        ensures content { IfContents D.told self.old (λ content. IfOk result (λ bytes. (stored_by content self.old.tables).contents id ≡ Some bytes.items)) }
         ensures placed { self.new.placed ≡ self.old.placed }
-        ensures crash { Stays D.told (IsOk result) self.old.files self.new.files (stored self.old.tables) }
+        ensures keeps { KeepsState D.told (IsOk result) (IsErrOf result StoreFault.Failed) self.old self.new }
         ensures alone { LeavesAllAlone D.told self.old.files self.new.files }
         ensures untouched { self.new.files ≡ self.old.files }
-        ensures goes_on { OnOk result (self.new.spent ≡ false) }
         ensures gives_up { OnErr result (self.new.spent ≡ true) }
-        ensures failed { IsErrOf result StoreFault.Failed → FaultRose D.told self.old.files self.new.files }
-        ensures disks { KeepsDisks D.told self.old.files self.new.files }
     {
         self.spent = true;
         let bytes = body_bytes(self.alloc, &self.tables, id)?;
@@ -186,9 +179,9 @@ impl<D: Disk> RowStore<D> {
 
     /// The files are at rest and hold the tables, and stay so while they are left alone. For the proofs of callers; does nothing.
     pub fn is_settled(&self)
-        ensures settled { self.now.spent ≡ false → IsSettled D.told self.now.files (stored self.now.tables) }
-        ensures joint { self.now.spent ≡ false → JointlyHolds D.told self.now.files (stored self.now.tables ∷ []) }
-        ensures stays { self.now.spent ≡ false → Stays D.told (Unit {0}) self.now.files self.now.files (stored self.now.tables) }
+        ensures settled { self.now.spent ≡ false → IfContents D.told self.now (λ content. IsSettled D.told self.now.files (stored_by content self.now.tables)) }
+        ensures joint { self.now.spent ≡ false → IfContents D.told self.now (λ content. JointlyHolds D.told self.now.files (stored_by content self.now.tables ∷ [])) }
+        ensures stays { self.now.spent ≡ false → IfContents D.told self.now (λ content. Stays D.told (Unit {0}) self.now.files self.now.files (stored_by content self.now.tables)) }
     {
         let _ = &self.files;
     }

@@ -4,6 +4,7 @@ use Rattle.ordered_rows.specs.RowKey.{number_key}
 use Rattle.ordered_rows.specs.Listed.{row_at}
 use Rattle.row_tables.specs.Keys.{body_part_key}
 use Rattle.row_tables.specs.declared.contents.BodyPart.{BodyPart}
+use Rattle.row_store.specs.Holding.{in_row}
 use Rattle.row_store.specs.Bodies.{HasBytes, IsThere}
 use Rattle.row_store.proofs.FoundRows.{row_id_is}
 use Rattle.row_store.proofs.bodies.find.Goals as goal
@@ -24,9 +25,9 @@ returns-in-None-clause-none c =
     let rows = c.args.tables.now.shared.bodyparts in
     let placed = c.args.placed.now in
     let bytes = c.args.bytes.now in
-    if_none {P = (body : BodyPart) → Contains placed body → HasBytes body bytes → ⊥} {Q = (body : BodyPart) → IsThere rows placed body → HasBytes body bytes → ⊥} c.find_placed.result
+    if_none {P = (body : BodyPart) → Contains placed body → HasBytes in_row body bytes → ⊥} {Q = (body : BodyPart) → IsThere rows placed body → HasBytes in_row body bytes → ⊥} c.find_placed.result
     (λ none body there has. nowhere none body has there) c.find_placed.ensures.none
   where
-    nowhere : ((body : BodyPart) → Contains c.args.placed.now body → HasBytes body c.args.bytes.now → ⊥) → (body : BodyPart) → HasBytes body c.args.bytes.now → IsThere c.args.tables.now.shared.bodyparts c.args.placed.now body → ⊥
+    nowhere : ((body : BodyPart) → Contains c.args.placed.now body → HasBytes in_row body c.args.bytes.now → ⊥) → (body : BodyPart) → HasBytes in_row body c.args.bytes.now → IsThere c.args.tables.now.shared.bodyparts c.args.placed.now body → ⊥
     nowhere none body has (inl at) = c.in-None.ensures.none body.id (body, at, has)
     nowhere none body has (inr at) = none body at has
