@@ -1,8 +1,3 @@
-pub mod Taking
-pub mod Growing
-pub mod Kept
-pub mod Keeping
-pub mod Chains
 pub mod Scripts
 pub mod Told
 pub mod Reached

@@ -13,12 +13,13 @@ use Rattle.port_model.specs.Playing.{Plan, IsPlayed, playing}
 use Rattle.port_model.specs.Script.{AreEvents}
 use Rattle.port_model.specs.ScriptPorts.{Scripted, told_history, its_plan}
 use Rattle.mail_model.specs.Machine.{Machine, Session, machine, after, is_open, session_at}
-use Rattle.mail_server.specs.declared.link.Link.{Link}
-use Rattle.mail_server.specs.Held.{Held, session_of, queue_of, Ascending}
-use Rattle.mail_server.specs.Calls.{Offers, Closes, Asks, Accepts, AcceptsBelow}
-use Rattle.mail_server.specs.Script.{first_world, script_machine}
-use Rattle.mail_server.specs.Serves.{Serves, Serving, Keeps, is_kept, FlushCalls, RoundCalls}
-use Rattle.mail_server.specs.Serves.{is_lost}
+use Rattle.mail_rounds.specs.declared.link.Link.{Link}
+use Rattle.mail_rounds.specs.Held.{Held, session_of, queue_of, Ascending}
+use Rattle.mail_rounds.specs.Calls.{Offers, Closes, Asks, Accepts, AcceptsBelow}
+use Rattle.mail_rounds.specs.Core.{first_world}
+use Rattle.mail_server.specs.Script.{script_machine}
+use Rattle.mail_rounds.specs.Serves.{Serves, Serving, Keeps, is_kept, FlushCalls, RoundCalls}
+use Rattle.mail_rounds.specs.Serves.{is_lost}
 use Rattle.mail_server.specs.Rounds.{plan_of, left_in, is_empty, has_loss, offers, flush, take, reached, reached_by, script_sent}
 use Rattle.mail_server.specs.OnScript.{IsLinked, AreNext, Leads, IsOn, IsSent, IsOnScript}
 use Rattle.mail_server.proofs.Reached.{offers-are, closes-are, flush-is, take-is, take-sends}

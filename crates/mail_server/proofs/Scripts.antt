@@ -15,8 +15,9 @@ use Rattle.port_model.specs.History.{PortEvent}
 use Rattle.imap_lexer.specs.Units.{Cut, first}
 use Rattle.mail_model.specs.Step.{World}
 use Rattle.mail_model.specs.Machine.{Machine, Session, Taking, machine, take_event, takes, becomes, session_at, of_session, is_open, serve, take_piece, take_unit, with_rest, taking_of, hears_piece, leaves}
-use Rattle.mail_server.specs.Script.{first_world, script_machine, port_event, and_opened, port_events, newest_first}
-use Rattle.mail_server.specs.Serves.{is_loss}
+use Rattle.mail_rounds.specs.Core.{first_world}
+use Rattle.mail_server.specs.Script.{script_machine, port_event, and_opened, port_events, newest_first}
+use Rattle.mail_rounds.specs.Serves.{is_loss}
 use Rattle.mail_server.specs.Rounds.{is_loss_of, has_loss}
 use Rattle.mail_server.specs.OnScript.{runs, IsLinked, IsNext, AreNext, AreNumbered, MayLose, Leads}
 

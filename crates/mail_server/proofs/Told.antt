@@ -19,10 +19,11 @@ use Rattle.port_model.specs.Playing.{Playing, IsPlayed, playing, is_of, given, m
 use Rattle.mail_model.specs.declared.standing.Standing.{Standing}
 use Rattle.mail_model.specs.declared.standing.Standing.TheVariants.{Open, Closing}
 use Rattle.mail_model.specs.Machine.{Machine, Session, machine, after, take_event, is_open}
-use Rattle.mail_server.specs.declared.link.Link.{Link}
-use Rattle.mail_server.specs.Calls.{Grows, Offers, OffersQueue, Closes, ClosesEmpty, Asks, AsksIdle, ReadsOnce, clocked, AcceptsBelow, read_room}
-use Rattle.mail_server.specs.Script.{first_world, script_machine, port_event}
-use Rattle.mail_server.specs.Serves.{OpenAreKept, is_lost}
+use Rattle.mail_rounds.specs.declared.link.Link.{Link}
+use Rattle.mail_rounds.specs.Calls.{Grows, Offers, OffersQueue, Closes, ClosesEmpty, Asks, AsksIdle, ReadsOnce, clocked, AcceptsBelow, read_room}
+use Rattle.mail_rounds.specs.Core.{first_world}
+use Rattle.mail_server.specs.Script.{script_machine, port_event}
+use Rattle.mail_rounds.specs.Serves.{OpenAreKept, is_lost}
 use Rattle.mail_server.specs.Rounds.{plan_of, left_in, has_loss}
 use Rattle.mail_server.specs.OnScript.{AreNext, Leads, IsOn}
 use Rattle.mail_server.proofs.Scripts.{NoneOpen, leads-next, leads-close, leaves-out, numbers-last}

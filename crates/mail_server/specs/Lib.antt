@@ -1,9 +1,3 @@
-pub mod Core
-pub mod Commands
-pub mod Held
-pub mod Calls
-pub mod Serves
-pub mod Heard
 pub mod Script
 pub mod Rounds
 pub mod OnScript

@@ -6,10 +6,11 @@ use Rattle.port_model.specs.declared.calls.PortCall.{PortCall}
 use Rattle.port_model.specs.History.{events, sent, is_closed}
 use Rattle.port_model.specs.ScriptPorts.{Scripted}
 use Rattle.mail_model.specs.Machine.{Machine, Session, take_event, after}
-use Rattle.mail_server.specs.Held.{Held}
-use Rattle.mail_server.specs.Script.{first_world, script_machine, port_event, and_opened}
+use Rattle.mail_rounds.specs.Held.{Held}
+use Rattle.mail_rounds.specs.Core.{first_world}
+use Rattle.mail_server.specs.Script.{script_machine, port_event, and_opened}
 use Rattle.mail_server.specs.Rounds.{plan_of, left_in, reached_by, has_loss}
-use Rattle.mail_server.specs.Serves.{Serves, is_lost}
+use Rattle.mail_rounds.specs.Serves.{Serves, is_lost}
 
 -- a machine after the events that are left of a script
 abbrev pub runs : Machine → List Event → Machine

@@ -9,9 +9,10 @@ use Rattle.port_model.specs.declared.calls.PortCall.TheVariants.{Accept, Read, S
 use Rattle.port_model.specs.History.{events, sent}
 use Rattle.port_model.specs.Playing.{Plan, playing, answer_to_accept, answer_to_read, answer_to_send}
 use Rattle.mail_model.specs.Machine.{Session, is_open, after}
-use Rattle.mail_server.specs.Calls.{clocked, read_room}
-use Rattle.mail_server.specs.Serves.{is_kept, is_lost}
-use Rattle.mail_server.specs.Script.{first_world, script_machine}
+use Rattle.mail_rounds.specs.Calls.{clocked, read_room}
+use Rattle.mail_rounds.specs.Serves.{is_kept, is_lost}
+use Rattle.mail_rounds.specs.Core.{first_world}
+use Rattle.mail_server.specs.Script.{script_machine}
 
 -- the events, where each send takes all that it is offered
 abbrev pub plan_of : List Event → Plan

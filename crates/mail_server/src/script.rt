@@ -4,14 +4,15 @@ ghost use Rattle.std.specs.Prelude.{ℕ, ◌≡◌, false, [], OnOk, IfOk};
 ghost use Rattle.port_model.specs.History.{sent};
 ghost use Rattle.port_model.specs.Playing.{playing};
 ghost use Rattle.port_model.specs.Script.{AreEvents};
-ghost use Rattle.mail_server.specs.Held.{held};
+ghost use Rattle.mail_rounds.specs.Held.{held};
 ghost use Rattle.mail_server.specs.OnScript.{IsOnScript};
 ghost use Rattle.mail_server.specs.Rounds.{script_sent};
-ghost use Rattle.mail_server.specs.Script.{first_world, script_machine};
-ghost use Rattle.mail_server.specs.Serves.{Serves};
+ghost use Rattle.mail_rounds.specs.Core.{first_world};
+ghost use Rattle.mail_server.specs.Script.{script_machine};
+ghost use Rattle.mail_rounds.specs.Serves.{Serves};
 
-use crate::server::{Server, Unloaded};
 use disk_model::Files;
+use mail_rounds::{Server, Unloaded};
 use port_model::{Event, ScriptPorts};
 use std::alloc::{AllocError, Global};
 
@@ -70,7 +71,7 @@ fn play_on<D>(
     }
     Ok(Played {
         ports,
-        last: server.last,
+        last: server.last(),
     })
 }
 

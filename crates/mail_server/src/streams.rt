@@ -6,9 +6,11 @@ ghost use Rattle.port_model.specs.Streams.{Appends};
 ghost use Rattle.mail_server.specs.declared.streams.ReadFailure.TheVariants.{NoMemory as ReadNoMemory};
 ghost use Rattle.mail_server.specs.Run.{HasRead, IsAtEnd, ReadsUpTo, ReadsSome, WritesFront};
 
-use crate::rounds::new_buffer;
 use port_model::{Sink, SinkFault, Source, SourceFault};
 use std::alloc::{AllocError, Global};
+
+/// How many bytes a source is read at a time.
+const READ_ROOM: usize = 65536;
 
 /// Why a source could not be read to its end.
 #[derive(Clone, Copy, Debug, PartialEq, Eq)]
@@ -86,7 +88,7 @@ pub(crate) fn read_all<S: Source>(
     ensures cause { IsErrOf result ReadFailure.Fault → Rose (S.faults source.old) (S.faults source.new) }
     ensures count { S.faults source.old ≤ S.faults source.new }
 {
-    let mut buffer = new_buffer(alloc)?;
+    let mut buffer = vec![in alloc; 0u8; READ_ROOM]?;
     let mut bytes = Vec::new(alloc);
     read_pieces(source, limit, &mut buffer, &mut bytes)?;
     Ok(bytes)
@@ -104,4 +106,32 @@ pub(crate) fn write_all<K: Sink>(sink: &mut K, bytes: &[u8]) -> Result<(), SinkF
         at += sink.write(&bytes[at..])?;
     }
     Ok(())
+}
+
+#[cfg(test)]
+mod tests {
+    use super::*;
+    use port_model::MemorySource;
+    use std::test::Fail;
+
+    #[test]
+    fn reading_ends_past_the_limit(rt: HostRuntime) -> Result<(), Fail> {
+        let alloc = rt.alloc();
+        let cases: [(usize, &[u8], usize); 4] = [
+            (0, b"a", 3),
+            (2, b"abc", 1),
+            (3, b"abcd", 0),
+            (4, b"abcd", 0),
+        ];
+        for (limit, read, left) in cases {
+            let mut source = MemorySource::new(alloc, b"abcd".to_vec(alloc)?, Vec::new(alloc))?;
+            let bytes = read_all(alloc, &mut source, limit)
+                .ok()
+                .unwrap_or(Vec::new(alloc));
+            assert_eq!(rt; bytes.as_slice(), read);
+            let mut rest = [0u8; 8];
+            assert_eq!(rt; source.read(&mut rest), Ok(left));
+        }
+        Ok(())
+    }
 }

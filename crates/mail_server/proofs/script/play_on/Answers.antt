@@ -2,7 +2,7 @@ use Rattle.std.proofs.Common.{ℕ, ◌≡◌, false, List, [], sym, ap, ◌∙�
 use Rattle.port_model.specs.declared.events.Event.{Event}
 use Rattle.port_model.specs.History.{sent}
 use Rattle.port_model.specs.ScriptPorts.{Scripted}
-use Rattle.mail_server.specs.Held.{held}
+use Rattle.mail_rounds.specs.Held.{held}
 use Rattle.mail_server.specs.OnScript.{IsOnScript}
 use Rattle.mail_server.specs.Rounds.{plan_of}
 use Rattle.mail_server.specs.Script.{script_machine}
@@ -17,7 +17,7 @@ run_rounds-requires-clause-on_script g c =
     subst (λ (script : List Event). IsOnScript script c.in_ok-ports.ports (held c.args.server.now)) (sym (ap (λ (p : Scripted). p.plan.events) e))
     (script_begins c.args.events.items c.in_ok-ports.ports (held c.args.server.now) c.requires.kept c.requires.fresh e)
 
-ended : (g : _) (c : goal.Else-starved g)
+ended : (g : _) (c : goal.After-last g)
     → ((number : ℕ) → sent c.flush.new.ports.calls number ≡ script_sent c.args.events.items number) × (c.flush.new.self.last ≡ (script_machine c.args.events.items).last)
 ended g c =
     let told : c.flush.new.ports.starved ≡ false = sym c.starved.ensures.starved ∙ c.if-starved.false in
@@ -30,4 +30,4 @@ pub returns-clause-sent : goal.returns-clause-sent
 returns-clause-sent g c = (ended g c).0
 
 pub returns-clause-last : goal.returns-clause-last
-returns-clause-last g c = (ended g c).1
+returns-clause-last g c = c.last.ensures ∙ (ended g c).1

@@ -1,6 +1,6 @@
 use Rattle.std.proofs.Common.{◌≡◌, ◌≢◌, true, false, [], is_err, sym, ◌∙◌}
 use Rattle.port_model.specs.Playing.{playing}
-use Rattle.mail_server.specs.Held.{held}
+use Rattle.mail_rounds.specs.Held.{held}
 use Rattle.mail_server.proofs.Progress.{round_goes_on, on_ok}
 use Rattle.mail_server.proofs.script.run_rounds.Goals as goal
 

@@ -1,6 +1,6 @@
 use Rattle.std.proofs.Common.{◌≡◌, false, length}
 use Rattle.port_model.specs.Playing.{playing}
-use Rattle.mail_server.specs.Held.{held}
+use Rattle.mail_rounds.specs.Held.{held}
 use Rattle.mail_server.specs.OnScript.{IsOnScript}
 use Rattle.mail_server.proofs.script.run_rounds.Given as goal
 

@@ -1,0 +1,28 @@
+use Rattle.std.proofs.Common.{ℕ, ◌≡◌, ◌<◌, ◌+◌, ◌-◌, length, take, drop, sym, ◌∙◌, ap, subst, arith}
+use Rattle.std.specs.List.{slice_get}
+use Rattle.port_model.specs.Chain.{Chain}
+use Rattle.mail_rounds.specs.Calls.{Closes}
+use Rattle.mail_rounds.proofs.Chains.{chain_more, never_falls, rest-more, rest-at}
+use Rattle.mail_rounds.proofs.server.Server.close_all.Goals as goal
+
+pub closing-preserved : goal.closing-preserved
+closing-preserved g c =
+    let so_far = c.closing.invariant in
+    let step = c.close_or_pass-i.ensures in
+    let looked = c.closing.i + (length c.args.self.now.links.items - length c.closing.self.links.items) in
+    let gone = length c.args.self.now.links.items - length c.close_or_pass-i.new.self.links.items in
+    let one_more : looked + 1 ≡ c.close_or_pass-i.result + gone = omega (arith, step.index, step.within.0, step.within.1) in
+    let within : looked < length c.args.self.now.links.items = omega arith in
+    record {
+      plan = step.plan ∙ so_far.plan;
+      counts = never_falls _ _ _ _ _ _ so_far.counts step.counts;
+      within = step.within.0;
+      fewer = omega (arith, step.within.1);
+      rest = step.rest ∙ rest-more c.closing.self.links.items c.args.self.now.links.items c.closing.i looked so_far.rest ∙ ap (λ (k : ℕ). drop k c.args.self.now.links.items) one_more;
+      calls = subst (λ (k : ℕ). Chain Closes (take k c.args.self.now.links.items) (g.P.Ports.history c.args.ports.now) (g.P.Ports.history c.close_or_pass-i.new.ports)) one_more
+          (chain_more Closes c.args.self.now.links.items looked (slice_get c.closing.self.links.items c.closing.i) _ _ _ so_far.calls within
+          (sym (rest-at c.closing.self.links.items c.args.self.now.links.items c.closing.i looked so_far.rest)) step.calls);
+      keeps = λ first serving. step.keeps first (so_far.keeps first serving);
+      files = step.files ∙ so_far.files;
+      spent = step.spent ∙ so_far.spent;
+    }

@@ -1,0 +1,81 @@
+-- What one link has happen: what its event is, and what is left of it.
+use Rattle.std.specs.Prelude.{ℕ, ◌≡◌, ◌≢◌, true, List, [], ◌∷◌, ◌++◌, Option, Some, None}
+use Rattle.port_model.specs.declared.calls.PortCall.{PortCall}
+use Rattle.port_model.specs.History.{PortEvent, Opened, Piece, Ended, Lost, events, sent, is_closed}
+use Rattle.imap_lexer.specs.Lexer.{Awaited}
+use Rattle.mail_model.specs.declared.standing.Standing.{Standing}
+use Rattle.mail_model.specs.Step.{World, Stepped}
+use Rattle.mail_model.specs.Machine.{Session, Taking, is_open, standing_after, taking_of, hears_piece, leaves}
+use Rattle.mail_rounds.specs.declared.shared.Core.{Core}
+use Rattle.mail_rounds.specs.declared.link.Link.{Link}
+use Rattle.mail_rounds.specs.Core.{IsWorld}
+use Rattle.mail_rounds.specs.Held.{session_of}
+
+-- The event, if there is one, is of the link of a number, and opens none.
+abbrev pub IsOfLink : ℕ → Option PortEvent → Type 0
+IsOfLink number None = Unit {0}
+IsOfLink number (Some (Opened who kind)) = ⊥
+IsOfLink number (Some (Piece who piece moment)) = who ≡ number
+IsOfLink number (Some (Ended who)) = who ≡ number
+IsOfLink number (Some (Lost who)) = who ≡ number
+
+-- the events with this one in front, if there is one
+abbrev pub and_event : Option PortEvent → List PortEvent → List PortEvent
+and_event None older = older
+and_event (Some event) older = event ∷ older
+
+-- what the event does to the session of its link
+abbrev pub acts : Option PortEvent → World → Session → Taking
+acts None world session = taking_of world session
+acts (Some (Opened who kind)) world session = taking_of world session
+acts (Some (Piece who piece moment)) world session = hears_piece moment piece world session
+acts (Some (Ended who)) world session = leaves world session
+acts (Some (Lost who)) world session = leaves world session
+
+-- A core and a link hold what a session's part in an event leaves.
+pub record IsTaking (core : Core) (link : Link) (taking : Taking) : Type 0 where
+  pub world : IsWorld core taking.world
+  pub session : session_of link ≡ taking.session
+  pub answers : link.queue.items ≡ taking.answers
+
+-- A link's parts after a step of its session: how it stands, what it awaits, and its queue with the answer added.
+pub record AfterStep (core : Core) (standing : Standing) (lexer : Awaited) (before later : List ℕ) (stepped : Stepped) : Type 0 where
+  pub world : IsWorld core stepped.world
+  pub stands : standing ≡ standing_after stepped.closes
+  pub awaits : lexer ≡ record { form = stepped.next; bytes = [] }
+  pub answer : later ≡ before ++ stepped.answer
+
+-- A link was asked what came by it, or it was not its turn. Nothing was sent and nothing was closed.
+pub record Hears (core : Core) (link : Link) (core' : Core) (link' : Link) (before later : List PortCall) : Type 0 where
+  pub event : Option PortEvent
+  pub its : IsOfLink link.number event
+  pub events_are : events later ≡ and_event event (events before)
+  pub sent_same : (number : ℕ) → sent later number ≡ sent before number
+  pub closed_same : (number : ℕ) → is_closed later number ≡ is_closed before number
+  pub same : event ≡ None → (core' ≡ core) × (session_of link' ≡ session_of link) × (link'.queue.items ≡ link.queue.items)
+  pub idle : event ≢ None → link.queue.items ≡ []
+  pub was_open : event ≢ None → is_open link.standing ≡ true
+  pub does : event ≢ None → (world : World) → IsWorld core world → IsTaking core' link' (acts event world (session_of link))
+
+-- The event, if there is one, is that the link of a number is lost.
+abbrev pub IsLossOf : ℕ → Option PortEvent → Type 0
+IsLossOf number None = Unit {0}
+IsLossOf number (Some (Opened who kind)) = ⊥
+IsLossOf number (Some (Piece who piece moment)) = ⊥
+IsLossOf number (Some (Ended who)) = ⊥
+IsLossOf number (Some (Lost who)) = who ≡ number
+
+-- A link was offered what it had to send. What was sent with what is still to be sent is as before, unless the link
+-- was lost: then its queue is dropped.
+pub record Offered (core : Core) (link : Link) (core' : Core) (link' : Link) (before later : List PortCall) : Type 0 where
+  pub event : Option PortEvent
+  pub its : IsLossOf link.number event
+  pub events_are : events later ≡ and_event event (events before)
+  pub closed_same : (number : ℕ) → is_closed later number ≡ is_closed before number
+  pub sent_same : (number : ℕ) → number ≢ link.number → sent later number ≡ sent before number
+  pub idle : link.queue.items ≡ [] → (link'.queue.items ≡ []) × (sent later link.number ≡ sent before link.number)
+  pub whole : event ≡ None → sent later link.number ++ link'.queue.items ≡ sent before link.number ++ link.queue.items
+  pub dropped : event ≢ None → (link'.queue.items ≡ []) × (sent later link.number ≡ sent before link.number)
+  pub no_answer : (world : World) → IsWorld core world
+      → (IsWorld core' (acts event world (session_of link)).world) × (session_of link' ≡ (acts event world (session_of link)).session)
+  pub same : event ≡ None → (core' ≡ core) × (session_of link' ≡ session_of link)

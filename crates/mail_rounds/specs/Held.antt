@@ -1,0 +1,34 @@
+-- What a server holds, over plain values.
+use Rattle.std.specs.Prelude.{ℕ, ◌<◌, ◌≤◌, ◌==◌, List, [], ◌∷◌, if◌then◌else◌}
+use Rattle.mail_model.specs.Machine.{Session, Taking}
+use Rattle.mail_model.specs.Step.{World}
+use Rattle.mail_rounds.specs.declared.shared.Core.{Core}
+use Rattle.mail_rounds.specs.declared.link.Link.{Link}
+use Rattle.mail_rounds.specs.declared.server.Server.{Server}
+
+-- The core, the links that aren't closed, and the number of the latest one.
+pub record Held : Type 0 where
+  pub core : Core
+  pub links : List Link
+  pub last : ℕ
+
+abbrev pub held : {D : Type 0} → Server D → Held
+held server = record { core = server.core; links = server.links.items; last = server.last }
+
+-- the session of a link
+abbrev pub session_of : Link → Session
+session_of link = record { number = link.number; standing = link.standing; form = link.lexer.form; rest = link.lexer.bytes }
+
+-- a link's session with the world, and its queue as what it is answered
+abbrev pub taking_in : World → Link → Taking
+taking_in world link = record { world = world; session = session_of link; answers = link.queue.items }
+
+-- the answers of a number that aren't sent yet
+abbrev pub queue_of : ℕ → List Link → List ℕ
+queue_of number [] = []
+queue_of number (link ∷ links) = if link.number == number then link.queue.items else queue_of number links
+
+-- The numbers of the links rise, from above a bound up to the latest.
+abbrev pub Ascending : ℕ → List Link → ℕ → Type 0
+Ascending low [] last = low ≤ last
+Ascending low (link ∷ links) last = (low < link.number) × Ascending link.number links last

@@ -1,0 +1,132 @@
+//! What comes by one link is taken.
+
+ghost use Rattle.std.specs.Prelude.{ℕ, ◌≡◌, List, OnOk, None, length};
+ghost use Rattle.port_model.specs.Ports.{NeverFall};
+ghost use Rattle.port_model.specs.Streams.{moment};
+ghost use Rattle.imap_lexer.specs.Units.{first};
+ghost use Rattle.mail_model.specs.Step.{World, step};
+ghost use Rattle.mail_model.specs.Bytes.{take_byte, take_bytes};
+ghost use Rattle.mail_rounds.specs.Core.{IsWorld};
+ghost use Rattle.mail_rounds.specs.Held.{taking_in};
+ghost use Rattle.mail_rounds.specs.Calls.{Grows, Asks, read_room};
+ghost use Rattle.mail_rounds.specs.Heard.{Hears, IsTaking, AfterStep};
+
+use crate::ending::end_session;
+use crate::link::Link;
+use crate::shared::Core;
+use imap_lexer::{Fed, Lexer};
+use mail_model::{Standing, units_whatever_the_pieces};
+use port_model::{PortRead, Ports};
+use std::alloc::AllocError;
+
+/// The last second of the year 9999, in seconds since 1970. A later reading of a clock is used as this one.
+const LAST_MOMENT: u64 = 253_402_300_799;
+
+/// Does what a whole unit asks, and awaits the next one.
+fn finish_unit(
+    core: &mut Core,
+    number: u32,
+    standing: &mut Standing,
+    lexer: &mut Lexer,
+    queue: &mut Vec<u8>,
+    fed: Fed,
+    moment: u64,
+) -> Result<(), AllocError>
+    ensures taken { OnOk result ((world : World) → IsWorld core.old world
+        → AfterStep core.new standing.new lexer.new queue.old.items queue.new.items (step world number lexer.old.form fed lexer.old.bytes moment)) }
+    ensures none { first lexer.new.form lexer.new.bytes ≡ None }
+{
+    let plain = lexer.is_plain();
+    match core.execute(number, plain, fed, lexer.unit(), moment, queue) {
+        Ok(outcome) => {
+            lexer.next(outcome.plain);
+            *standing = if outcome.closes {
+                Standing::Closing
+            } else {
+                Standing::Open
+            };
+            Ok(())
+        }
+        Err(fault) => {
+            lexer.next(false);
+            Err(fault)
+        }
+    }
+}
+
+/// Takes one byte of a link's peer, and does what its unit asks where it is the last one.
+fn serve_byte(core: &mut Core, link: &mut Link, byte: u8, moment: u64) -> Result<(), AllocError>
+    ensures taken { OnOk result ((world : World) → IsWorld core.old world → IsTaking core.new link.new (take_byte moment (taking_in world link.old) byte)) }
+    ensures number { link.new.number ≡ link.old.number }
+{
+    if !link.standing.is_open() {
+        return Ok(());
+    }
+    match link.lexer.feed(byte)? {
+        Fed::More => Ok(()),
+        fed => {
+            finish_unit(
+                core,
+                link.number,
+                &mut link.standing,
+                &mut link.lexer,
+                &mut link.queue,
+                fed,
+                moment,
+            )?;
+            Ok(())
+        }
+    }
+}
+
+/// Takes a piece that came by a link, byte by byte.
+fn serve_bytes(
+    core: &mut Core,
+    link: &mut Link,
+    piece: &[u8],
+    moment: u64,
+) -> Result<(), AllocError>
+    ensures taken { OnOk result ((world : World) → IsWorld core.old world → IsTaking core.new link.new (take_bytes moment (taking_in world link.old) piece.now)) }
+    ensures number { link.new.number ≡ link.old.number }
+{
+    'bytes: for byte in piece {
+        serve_byte(core, link, *byte, moment)?;
+    }
+    Ok(())
+}
+
+/// Asks a link that is open and has nothing to send what came by it, and takes that.
+pub(crate) fn hear<P: Ports>(
+    core: &mut Core,
+    link: &mut Link,
+    buffer: &mut [u8],
+    ports: &mut P,
+) -> Result<(), AllocError>
+    requires { length buffer.old ≡ read_room }
+    ensures plan { P.plan ports.new ≡ P.plan ports.old }
+    ensures counts { NeverFall (P.listen_faults ports.old) (P.link_faults ports.old) (P.listen_faults ports.new) (P.link_faults ports.new) }
+    ensures calls { Asks link.old (P.history ports.old) (P.history ports.new) }
+    ensures hears { OnOk result (Grows (Hears core.old link.old core.new link.new) (P.history ports.old) (P.history ports.new)) }
+    ensures number { link.new.number ≡ link.old.number }
+{
+    if !link.standing.is_open() || !link.queue.is_empty() {
+        return Ok(());
+    }
+    match ports.read(link.number, buffer) {
+        PortRead::Bytes(count) => {
+            let moment = ports.now().min(LAST_MOMENT);
+            units_whatever_the_pieces();
+            serve_bytes(core, link, &buffer[..count], moment)?;
+            Ok(())
+        }
+        PortRead::Quiet => Ok(()),
+        PortRead::Ended => {
+            end_session(core, link);
+            Ok(())
+        }
+        PortRead::Lost => {
+            end_session(core, link);
+            Ok(())
+        }
+    }
+}

@@ -1,0 +1,387 @@
+//! The rounds of the server.
+
+ghost use Rattle.std.specs.Prelude.{ℕ, ◌≡◌, ◌≢◌, ◌<◌, ◌≤◌, ◌+◌, false, [], List, Option, OnOk, OnErr, IfOk, IfErr, IsErrOf, IfSome, length, take, drop, slice_get, is_err, is_ok, count_by};
+ghost use Rattle.fault_counts.specs.Rose.{Rose};
+ghost use Rattle.port_model.specs.Ports.{NeverFall};
+ghost use Rattle.port_model.specs.Chain.{Chain};
+ghost use Rattle.mail_model.specs.Step.{World};
+ghost use Rattle.mail_model.specs.Machine.{is_open};
+ghost use Rattle.mail_rounds.specs.declared.rounds.RoundFault.TheVariants.{NoMemory as RoundNoMemory};
+ghost use Rattle.mail_rounds.specs.Core.{IsWorld};
+ghost use Rattle.mail_rounds.specs.Held.{held, Held};
+ghost use Rattle.mail_rounds.specs.Calls.{Offers, Asks, Closes, Accepts, TakesCalls};
+ghost use Rattle.mail_rounds.specs.Serves.{Keeps, Serves, FlushCalls, RoundCalls, RoundPart, Opens};
+ghost use Rattle.mail_rounds.specs.Core.{first_world};
+
+use crate::hearing::hear;
+use crate::link::Link;
+use crate::sending::offer;
+use crate::server::{LoadFault, Server, Unloaded};
+use crate::shared::{Core, SESSION_LIMIT};
+use disk_model::Files;
+use imap_lexer::Lexer;
+use mail_model::Standing;
+use port_model::{Kind, ListenFault, Ports};
+use std::alloc::{AllocError, Global};
+
+/// Why a round ended before its end. The server is given up.
+#[derive(Clone, Copy, Debug, PartialEq, Eq)]
+pub enum RoundFault {
+    /// Listening for new links failed.
+    ListenFault,
+    /// Memory was refused.
+    NoMemory,
+}
+
+impl From<AllocError> for RoundFault {
+    ghost from_gives = { λ _ fault. fault ≡ RoundNoMemory };
+
+    fn from(_fault: AllocError) -> RoundFault {
+        RoundFault::NoMemory
+    }
+}
+
+/// How many bytes a link is read at a time.
+const READ_ROOM: usize = 65536;
+
+/// A buffer to read links into.
+fn new_buffer(alloc: Global) -> Result<Vec<u8>, AllocError>
+    ensures { IfOk result (λ buffer. length buffer.items ≡ 65536) }
+{
+    vec![in alloc; 0u8; READ_ROOM]
+}
+
+/// As many lexers as there are sessions at once.
+fn new_lexers(alloc: Global) -> Result<Vec<Lexer>, AllocError> {
+    let mut lexers = Vec::with_capacity(alloc, SESSION_LIMIT)?;
+    'lexers: for _ in 0..SESSION_LIMIT {
+        lexers.push(Lexer::new(alloc)?)?;
+    }
+    Ok(lexers)
+}
+
+/// A lexer of those that are spare, or a new one.
+fn take_lexer(alloc: Global, spare: &mut Vec<Lexer>) -> Result<Lexer, AllocError> {
+    match spare.pop() {
+        Some(lexer) => Ok(lexer),
+        None => Lexer::new(alloc),
+    }
+}
+
+/// Keeps a lexer for a link that is to come, unless there are enough. It takes no memory.
+fn spare_lexer(spare: &mut Vec<Lexer>, lexer: Lexer) {
+    if spare.len() < spare.capacity() {
+        let _ = spare.push(lexer);
+    }
+}
+
+/// The memory of a server: room to read into, the table of links, and lexers for them.
+#[derive(Drop)]
+struct Room {
+    buffer: Vec<u8>,
+    links: Vec<Link>,
+    spare: Vec<Lexer>,
+}
+
+/// Takes the memory for as many sessions as are served at once.
+fn new_room(alloc: Global) -> Result<Room, AllocError>
+    ensures buffer { IfOk result (λ room. length room.buffer.items ≡ 65536) }
+    ensures links { IfOk result (λ room. room.links.items ≡ []) }
+{
+    Ok(Room {
+        buffer: new_buffer(alloc)?,
+        links: Vec::with_capacity(alloc, SESSION_LIMIT)?,
+        spare: new_lexers(alloc)?,
+    })
+}
+
+/// How many links are open.
+fn count_open(links: &[Link]) -> usize
+    ensures { result ≡ count_by (λ link. is_open link.standing) links.now }
+{
+    links.iter().filter(|link| link.standing.is_open()).count()
+}
+
+impl<D> Server<D> {
+    /// The server of a store, with no link yet. It touches no file. The memory for the lines of 64 sessions is taken here.
+    pub fn load(alloc: Global, files: Files<D>) -> Result<Server<D>, Unloaded<D>>
+        ensures fresh { IfOk result (λ server. ((held server).links ≡ []) × ((held server).last ≡ 0) × (server.spent ≡ false)) }
+        ensures stands { IfOk result (λ server. IsWorld (held server).core first_world) }
+        ensures serves { IfOk result (λ server. (first : World) → IsWorld (held server).core first → Serves first [] (held server)) }
+        ensures files { IfOk result (λ server. server.files ≡ files) }
+        ensures back { IfErr result (λ unloaded. unloaded.files ≡ files) }
+    {
+        let Ok(
+            Room {
+                buffer,
+                links,
+                spare,
+            },
+        ) = new_room(alloc)
+        else {
+            return Err(Unloaded {
+                fault: LoadFault::NoMemory,
+                files,
+            });
+        };
+        Ok(Server {
+            files,
+            alloc,
+            core: Core::new(),
+            links,
+            last: 0,
+            buffer,
+            spare,
+            spent: false,
+        })
+    }
+
+    /// The number of the latest session, 0 before the first.
+    pub fn last(&self) -> u32
+        ensures { result ≡ (held self.now).last }
+    {
+        self.last
+    }
+
+    /// The files as they are, also from a server that is given up.
+    pub fn into_files(self) -> Files<D>
+        ensures { result ≡ self.files }
+    {
+        let Server {
+            files,
+            alloc: _,
+            core: _,
+            links: _,
+            last: _,
+            buffer: _,
+            spare: _,
+            spent: _,
+        } = self;
+        files
+    }
+
+    /// Offers the link at an index what it has to send.
+    fn offer_at<P: Ports>(&mut self, i: usize, ports: &mut P)
+        requires { i < length self.old.links.items }
+        ensures plan { P.plan ports.new ≡ P.plan ports.old }
+        ensures counts { NeverFall (P.listen_faults ports.old) (P.link_faults ports.old) (P.listen_faults ports.new) (P.link_faults ports.new) }
+        ensures calls { IfSome (slice_get self.old.links.items i) (λ link. Offers link (P.history ports.old) (P.history ports.new)) }
+        ensures keeps { Keeps (P.history ports.old) (held self.old) (P.history ports.new) (held self.new) }
+        ensures others { (k : ℕ) → k ≢ i → slice_get self.new.links.items k ≡ slice_get self.old.links.items k }
+        ensures count { length self.new.links.items ≡ length self.old.links.items }
+        ensures last { self.new.last ≡ self.old.last }
+        ensures files { self.new.files ≡ self.old.files }
+        ensures spent { self.new.spent ≡ self.old.spent }
+    {
+        offer(&mut self.core, &mut self.links[i], ports);
+    }
+
+    /// Offers each link what it has to send.
+    fn offer_all<P: Ports>(&mut self, ports: &mut P)
+        ensures plan { P.plan ports.new ≡ P.plan ports.old }
+        ensures counts { NeverFall (P.listen_faults ports.old) (P.link_faults ports.old) (P.listen_faults ports.new) (P.link_faults ports.new) }
+        ensures calls { Chain Offers self.old.links.items (P.history ports.old) (P.history ports.new) }
+        ensures keeps { Keeps (P.history ports.old) (held self.old) (P.history ports.new) (held self.new) }
+        ensures files { self.new.files ≡ self.old.files }
+        ensures spent { self.new.spent ≡ self.old.spent }
+    {
+        'offers: for i in 0..self.links.len() {
+            self.offer_at(i, ports);
+        }
+    }
+
+    /// Closes the link at an index where it isn't open and has nothing to send, and answers where the next link stands.
+    fn close_or_pass<P: Ports>(&mut self, i: usize, ports: &mut P) -> usize
+        requires { i < length self.old.links.items }
+        ensures plan { P.plan ports.new ≡ P.plan ports.old }
+        ensures counts { NeverFall (P.listen_faults ports.old) (P.link_faults ports.old) (P.listen_faults ports.new) (P.link_faults ports.new) }
+        ensures calls { IfSome (slice_get self.old.links.items i) (λ link. Closes link (P.history ports.old) (P.history ports.new)) }
+        ensures keeps { Keeps (P.history ports.old) (held self.old) (P.history ports.new) (held self.new) }
+        ensures rest { drop result self.new.links.items ≡ drop (i + 1) self.old.links.items }
+        ensures within { (result ≤ length self.new.links.items) × (length self.new.links.items ≤ length self.old.links.items) }
+        ensures index { result + length self.old.links.items ≡ i + 1 + length self.new.links.items }
+        ensures files { self.new.files ≡ self.old.files }
+        ensures spent { self.new.spent ≡ self.old.spent }
+    {
+        let link = &self.links[i];
+        if link.standing.is_open() || !link.queue.is_empty() {
+            return i + 1;
+        }
+        ports.close(link.number);
+        let Link {
+            number: _,
+            standing: _,
+            lexer,
+            queue: _,
+        } = self.links.remove(i);
+        spare_lexer(&mut self.spare, lexer);
+        i
+    }
+
+    /// Closes each link that isn't open and has nothing to send.
+    fn close_all<P: Ports>(&mut self, ports: &mut P)
+        ensures plan { P.plan ports.new ≡ P.plan ports.old }
+        ensures counts { NeverFall (P.listen_faults ports.old) (P.link_faults ports.old) (P.listen_faults ports.new) (P.link_faults ports.new) }
+        ensures calls { Chain Closes self.old.links.items (P.history ports.old) (P.history ports.new) }
+        ensures keeps { Keeps (P.history ports.old) (held self.old) (P.history ports.new) (held self.new) }
+        ensures files { self.new.files ≡ self.old.files }
+        ensures spent { self.new.spent ≡ self.old.spent }
+    {
+        let mut i = 0;
+        'closing: while i < self.links.len() {
+            i = self.close_or_pass(i, ports);
+        }
+    }
+
+    /// Offers every link what it has to send, and then closes those whose session is over and which have nothing to
+    /// send any more. It takes no memory.
+    pub fn flush<P: Ports>(&mut self, ports: &mut P)
+        requires { self.old.spent ≡ false }
+        ensures plan { P.plan ports.new ≡ P.plan ports.old }
+        ensures counts { NeverFall (P.listen_faults ports.old) (P.link_faults ports.old) (P.listen_faults ports.new) (P.link_faults ports.new) }
+        ensures calls { FlushCalls (held self.old) (P.history ports.old) (P.history ports.new) }
+        ensures keeps { Keeps (P.history ports.old) (held self.old) (P.history ports.new) (held self.new) }
+        ensures files { self.new.files ≡ self.old.files }
+        ensures spent { self.new.spent ≡ false }
+    {
+        self.offer_all(ports);
+        self.close_all(ports);
+    }
+
+    /// Has a link of a new session.
+    fn open(&mut self, number: u32, kind: Kind) -> Result<(), AllocError>
+        requires { number ≡ self.old.last + 1 }
+        ensures opens { OnOk result (Opens (held self.old) (held self.new) number kind) }
+        ensures front { OnOk result (take (length self.old.links.items) self.new.links.items ≡ self.old.links.items) }
+        ensures files { self.new.files ≡ self.old.files }
+        ensures spent { self.new.spent ≡ self.old.spent }
+    {
+        let others = count_open(&self.links);
+        let mut queue = Vec::new(self.alloc);
+        let mut lexer = take_lexer(self.alloc, &mut self.spare)?;
+        let outcome = self.core.greet(number, kind, others, &mut queue)?;
+        lexer.next(outcome.plain);
+        let standing = if outcome.closes {
+            Standing::Closing
+        } else {
+            Standing::Open
+        };
+        self.links.push(Link {
+            number,
+            standing,
+            lexer,
+            queue,
+        })?;
+        self.last = number;
+        Ok(())
+    }
+
+    /// Takes a new link, if one came, while numbers last.
+    fn accept<P: Ports>(&mut self, ports: &mut P) -> Result<(), RoundFault>
+        ensures plan { P.plan ports.new ≡ P.plan ports.old }
+        ensures counts { NeverFall (P.listen_faults ports.old) (P.link_faults ports.old) (P.listen_faults ports.new) (P.link_faults ports.new) }
+        ensures calls { Accepts self.old.last (P.history ports.old) (P.history ports.new) }
+        ensures keeps { OnOk result (Keeps (P.history ports.old) (held self.old) (P.history ports.new) (held self.new)) }
+        ensures front { OnOk result (take (length self.old.links.items) self.new.links.items ≡ self.old.links.items) }
+        ensures listen { IsErrOf result RoundFault.ListenFault → Rose (P.listen_faults ports.old) (P.listen_faults ports.new) }
+        ensures files { self.new.files ≡ self.old.files }
+        ensures spent { self.new.spent ≡ self.old.spent }
+    {
+        if self.last == u32::MAX {
+            return Ok(());
+        }
+        let number = self.last + 1;
+        match ports.accept(number) {
+            Ok(Some(kind)) => Ok(self.open(number, kind)?),
+            Ok(None) => Ok(()),
+            Err(ListenFault) => Err(RoundFault::ListenFault),
+        }
+    }
+
+    /// Asks the link at an index what came by it, where it is its turn.
+    fn ask<P: Ports>(&mut self, i: usize, ports: &mut P) -> Result<(), AllocError>
+        requires { i < length self.old.links.items }
+        ensures plan { P.plan ports.new ≡ P.plan ports.old }
+        ensures counts { NeverFall (P.listen_faults ports.old) (P.link_faults ports.old) (P.listen_faults ports.new) (P.link_faults ports.new) }
+        ensures calls { IfSome (slice_get self.old.links.items i) (λ link. Asks link (P.history ports.old) (P.history ports.new)) }
+        ensures keeps { OnOk result (Keeps (P.history ports.old) (held self.old) (P.history ports.new) (held self.new)) }
+        ensures others { (k : ℕ) → k ≢ i → slice_get self.new.links.items k ≡ slice_get self.old.links.items k }
+        ensures count { length self.new.links.items ≡ length self.old.links.items }
+        ensures files { self.new.files ≡ self.old.files }
+        ensures spent { self.new.spent ≡ self.old.spent }
+    {
+        hear(&mut self.core, &mut self.links[i], &mut self.buffer, ports)
+    }
+
+    /// Asks so many links, from the first, what came by them.
+    fn ask_all<P: Ports>(&mut self, count: usize, ports: &mut P) -> Result<(), AllocError>
+        requires { count ≤ length self.old.links.items }
+        ensures plan { P.plan ports.new ≡ P.plan ports.old }
+        ensures counts { NeverFall (P.listen_faults ports.old) (P.link_faults ports.old) (P.listen_faults ports.new) (P.link_faults ports.new) }
+        ensures calls { OnOk result (Chain Asks (take count self.old.links.items) (P.history ports.old) (P.history ports.new)) }
+        ensures part { ((asked : ℕ) × (asked ≤ count) × Chain Asks (take asked self.old.links.items) (P.history ports.old) (P.history ports.new)) }
+        ensures keeps { OnOk result (Keeps (P.history ports.old) (held self.old) (P.history ports.new) (held self.new)) }
+        ensures files { self.new.files ≡ self.old.files }
+        ensures spent { self.new.spent ≡ self.old.spent }
+    {
+        'asks: for i in 0..count {
+            self.ask(i, ports)?;
+        }
+        Ok(())
+    }
+
+    /// The events of one round.
+    fn take_events<P: Ports>(&mut self, ports: &mut P) -> Result<(), RoundFault>
+        ensures plan { P.plan ports.new ≡ P.plan ports.old }
+        ensures counts { NeverFall (P.listen_faults ports.old) (P.link_faults ports.old) (P.listen_faults ports.new) (P.link_faults ports.new) }
+        ensures calls { OnOk result (TakesCalls (length self.old.links.items) (held self.old) (P.history ports.old) (P.history ports.new)) }
+        ensures part { ((asked : ℕ) × TakesCalls asked (held self.old) (P.history ports.old) (P.history ports.new)) }
+        ensures keeps { OnOk result (Keeps (P.history ports.old) (held self.old) (P.history ports.new) (held self.new)) }
+        ensures listen { IsErrOf result RoundFault.ListenFault → Rose (P.listen_faults ports.old) (P.listen_faults ports.new) }
+        ensures files { self.new.files ≡ self.old.files }
+        ensures spent { self.new.spent ≡ self.old.spent }
+    {
+        let count = self.links.len();
+        self.accept(ports)?;
+        self.ask_all(count, ports)?;
+        Ok(())
+    }
+
+    /// Takes one new link, if one came, and then what came by each link that is open and has nothing to send, in the
+    /// order of their numbers. It sends nothing. After a fault the server is given up.
+    pub fn take<P: Ports>(&mut self, ports: &mut P) -> Result<(), RoundFault>
+        requires { self.old.spent ≡ false }
+        ensures plan { P.plan ports.new ≡ P.plan ports.old }
+        ensures counts { NeverFall (P.listen_faults ports.old) (P.link_faults ports.old) (P.listen_faults ports.new) (P.link_faults ports.new) }
+
+        // The history grew by exactly these calls, and at a fault by a part of them from the front.
+        ensures calls { OnOk result (TakesCalls (length (held self.old).links) (held self.old) (P.history ports.old) (P.history ports.new)) }
+        ensures part { ((asked : ℕ) × TakesCalls asked (held self.old) (P.history ports.old) (P.history ports.new)) }
+        ensures keeps { OnOk result (Keeps (P.history ports.old) (held self.old) (P.history ports.new) (held self.new)) }
+        ensures listen { IsErrOf result RoundFault.ListenFault → Rose (P.listen_faults ports.old) (P.listen_faults ports.new) }
+        ensures files { self.new.files ≡ self.old.files }
+        ensures spent { self.new.spent ≡ is_err result }
+    {
+        let outcome = self.take_events(ports);
+        self.spent = outcome.is_err();
+        outcome
+    }
+
+    /// One round: `flush`, then `take`. So a byte that is sent answers an event of an earlier round.
+    pub fn round<P: Ports>(&mut self, ports: &mut P) -> Result<(), RoundFault>
+        requires { self.old.spent ≡ false }
+        ensures plan { P.plan ports.new ≡ P.plan ports.old }
+        ensures counts { NeverFall (P.listen_faults ports.old) (P.link_faults ports.old) (P.listen_faults ports.new) (P.link_faults ports.new) }
+
+        // The history grew by exactly these calls, and at a fault by a part of them from the front.
+        ensures calls { OnOk result (RoundCalls (held self.old) (P.history ports.old) (P.history ports.new)) }
+        ensures part { RoundPart (held self.old) (P.history ports.old) (P.history ports.new) }
+        ensures keeps { OnOk result (Keeps (P.history ports.old) (held self.old) (P.history ports.new) (held self.new)) }
+        ensures listen { IsErrOf result RoundFault.ListenFault → Rose (P.listen_faults ports.old) (P.listen_faults ports.new) }
+        ensures files { self.new.files ≡ self.old.files }
+        ensures spent { self.new.spent ≡ is_err result }
+    {
+        self.flush(ports);
+        self.take(ports)
+    }
+}

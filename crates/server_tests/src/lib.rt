@@ -1,0 +1,5 @@
+//! The server and what it stands on, tried from outside: each test uses public calls alone.
+#![tactic(auto)]
+
+#[cfg(test)]
+mod mail_server_tests;
