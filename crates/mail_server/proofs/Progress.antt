@@ -443,7 +443,7 @@ on-start script are = leads-start script are
 
 -- A script begins on a server that holds nothing.
 pub script_begins : (script : List Event) (ports : Scripted) (held : Held) → AreEvents script → Serves first_world [] held
-    → ports ≡ record { plan = plan_of script; calls = []; starved = false; starvations = 0 } → IsOnScript script ports held
+    → ports ≡ record { plan = plan_of script; calls = []; starved = false; starved_accepts = 0; starved_calls = 0 } → IsOnScript script ports held
 script_begins script ports held are serves e =
     subst (λ (p : Scripted). IsOnScript script p held) (sym e)
     (record { told = refl; plan = refl; serves = serves; leads = on-start script are; sends = record { turns = length script; enough = omega arith; leads = refl }; numbers = subst (λ (n : ℕ). n < 2 ^ 32) (sym (script-last script)) are.numbers })

@@ -11,12 +11,13 @@ use Rattle.port_model.specs.History.{sent}
 use Rattle.port_model.specs.Player.{Played}
 
 -- Ports that play a script: their plan, the calls that they recorded, the newest first, whether a record of a call
--- ever found no memory, and how many calls since then could not be recorded.
+-- ever found no memory, and how many calls since then could not be recorded: those that asked for a link, and all others.
 pub record Scripted : Type 0 where
   pub plan : Plan
   pub calls : List PortCall
   pub starved : Bool
-  pub starvations : ℕ
+  pub starved_accepts : ℕ
+  pub starved_calls : ℕ
 
 -- The calls are the whole history as long as each was recorded.
 abbrev pub told_history : Scripted → Option (List PortCall)
@@ -26,7 +27,7 @@ abbrev pub its_plan : Scripted → Option Plan
 its_plan ports = Some ports.plan
 
 abbrev pub listen_count : Scripted → ℕ
-listen_count ports = ports.starvations
+listen_count ports = ports.starved_accepts
 
 -- whether a call on the link of a number was answered that the link is lost
 abbrev pub is_lost_read : ReadAnswer → Bool
@@ -48,9 +49,9 @@ losses (Now reading ∷ older) number = losses older number
 losses (Send who bytes answer ∷ older) number = losses older number + (if who == number then (if is_lost_send answer then 1 else 0) else 0)
 losses (Close who ∷ older) number = losses older number
 
--- A link fails where the script loses it, and at each call that could not be recorded.
+-- A link fails where the script loses it, and at each call that could not be recorded and asked for no link.
 abbrev pub link_count : Scripted → ℕ → ℕ
-link_count ports number = min (losses ports.calls number + ports.starvations) (2 ^ 64 - 1)
+link_count ports number = min (losses ports.calls number + ports.starved_calls) (2 ^ 64 - 1)
 
 -- The player stands where the calls leave the script, each call had the script's answer, and the texts are what was sent.
 pub record IsFollowed (played : Played) (calls : List PortCall) (texts : ℕ → List ℕ) : Type 0 where

@@ -47,16 +47,3 @@ impl Clock for FixedClock {
         self.moment
     }
 }
-
-#[cfg(test)]
-mod tests {
-    use super::*;
-
-    #[test]
-    fn stands_still(rt: HostRuntime) {
-        let mut clock = FixedClock::new(253402300799);
-        for _ in 0..3 {
-            assert_eq!(rt; clock.now(), 253402300799);
-        }
-    }
-}

@@ -63,6 +63,7 @@ impl Source for MemorySource {
         ensures within { IfOk result (λ n. n ≤ length buf.old) }
         ensures taken { IfOk result (λ n. Takes n buf.new (source_left self.old) (source_left self.new)) }
         ensures cause { OnErr result (Rose (source_faults self.old) (source_faults self.new)) }
+        ensures quiet { OnOk result (source_faults self.new ≡ source_faults self.old) }
         ensures kept { OnErr result (source_left self.new ≡ source_left self.old) }
         ensures count { source_faults self.old ≤ source_faults self.new }
         ensures fails { is_err result ≡ fails_after self.old.calls self.old.fails }
@@ -139,6 +140,7 @@ impl Sink for MemorySink {
         ensures some { IfOk result (λ n. 0 < length bytes.now → 0 < n) }
         ensures appended { IfOk result (λ n. Appends (take n bytes.now) (sink_written self.old) (sink_written self.new)) }
         ensures cause { OnErr result (Rose (sink_faults self.old) (sink_faults self.new)) }
+        ensures quiet { OnOk result (sink_faults self.new ≡ sink_faults self.old) }
         ensures kept { OnErr result (sink_written self.new ≡ sink_written self.old) }
         ensures count { sink_faults self.old ≤ sink_faults self.new }
         ensures fails { OnOk result (fails_after self.old.calls self.old.fails ≡ false) }
@@ -165,42 +167,4 @@ pub(crate) fn copy_front(buf: &mut [u8], bytes: &[u8]) -> usize
     let n = buf.len().min(bytes.len());
     buf[..n].copy_from_slice(&bytes[..n]);
     n
-}
-
-#[cfg(test)]
-mod tests {
-    use super::*;
-    use std::test::Fail;
-
-    #[test]
-    fn chosen_calls_fail(rt: HostRuntime) -> Result<(), Fail> {
-        let alloc = rt.alloc();
-        let bytes = b"abcde".to_vec(alloc)?;
-        let mut source = MemorySource::new(alloc, bytes, vec![in alloc; 2, 5]?)?;
-        let mut buf = [b'-'; 3];
-        for (answer, now) in [
-            (Ok(3), b"abc"),
-            (Err(SourceFault), b"abc"),
-            (Ok(2), b"dec"),
-            (Ok(0), b"dec"),
-            (Err(SourceFault), b"dec"),
-            (Ok(0), b"dec"),
-        ] {
-            assert_eq!(rt; source.read(&mut buf), answer);
-            assert_eq!(rt; buf, *now);
-        }
-
-        let mut sink = MemorySink::new(alloc, vec![in alloc; 2]?)?;
-        for (bytes, answer) in [
-            (b"one".as_slice(), Ok(3)),
-            (b"two".as_slice(), Err(SinkFault)),
-            (b"".as_slice(), Ok(0)),
-            (b"four".as_slice(), Ok(4)),
-        ] {
-            assert_eq!(rt; sink.write(bytes), answer);
-        }
-        assert_eq!(rt; sink.written(), b"onefour".as_slice());
-        assert!(rt; !sink.starved());
-        Ok(())
-    }
 }

@@ -1,6 +1,6 @@
 //! The links to peers.
 
-ghost use Rattle.std.specs.Prelude.{ℕ, ◌≡◌, ◌<◌, List, Option, IsErr, length};
+ghost use Rattle.std.specs.Prelude.{ℕ, ◌≡◌, ◌<◌, List, Option, IsErr, OnOk, length};
 ghost use Rattle.fault_counts.specs.Rose.{Rose};
 ghost use Rattle.port_model.specs.declared.calls.PortCall.{PortCall};
 ghost use Rattle.port_model.specs.declared.calls.PortCall.TheVariants.{Accept, Read, Now, Send, Close};
@@ -16,7 +16,8 @@ pub trait Ports {
     /// The calls with their answers, the newest first, where they are told. They may stop being told, and don't begin to be.
     ghost history: { Self → Option (List PortCall) };
 
-    /// How often listening failed. It never falls, and stays at `u64::MAX` once it is there.
+    /// How often listening failed. It never falls, and stays at `u64::MAX` once it is there. A call that asks for no link
+    /// leaves it as it is, and so does one that gets an answer.
     ghost listen_faults: { Self → ℕ };
 
     /// How often the link of a number failed. It never falls, and stays at `u64::MAX` once it is there.
@@ -30,6 +31,7 @@ pub trait Ports {
         ensures history { Records (Accept number result) (history self.old) (history self.new) }
         ensures cause { IsErr result → Rose (listen_faults self.old) (listen_faults self.new) }
         ensures counts { NeverFall (listen_faults self.old) (link_faults self.old) (listen_faults self.new) (link_faults self.new) }
+        ensures quiet { OnOk result (listen_faults self.new ≡ listen_faults self.old) }
         ensures plan { plan self.new ≡ plan self.old };
 
     /// Reads what came by a link, if anything did.
@@ -39,12 +41,14 @@ pub trait Ports {
         ensures within { ReadsWithin (length buf.old) result }
         ensures cause { result ≡ ReadLost → Rose (link_faults self.old number) (link_faults self.new number) }
         ensures counts { NeverFall (listen_faults self.old) (link_faults self.old) (listen_faults self.new) (link_faults self.new) }
+        ensures quiet { listen_faults self.new ≡ listen_faults self.old }
         ensures plan { plan self.new ≡ plan self.old };
 
     /// The seconds since 1970.
     fn now(&mut self) -> u64
         ensures history { Records (Now result) (history self.old) (history self.new) }
         ensures counts { NeverFall (listen_faults self.old) (link_faults self.old) (listen_faults self.new) (link_faults self.new) }
+        ensures quiet { listen_faults self.new ≡ listen_faults self.old }
         ensures plan { plan self.new ≡ plan self.old };
 
     /// Offers bytes to a link, which takes as many from their front as it can without waiting.
@@ -53,11 +57,13 @@ pub trait Ports {
         ensures within { TakesWithin (length bytes.now) result }
         ensures cause { result ≡ SendLost → Rose (link_faults self.old number) (link_faults self.new number) }
         ensures counts { NeverFall (listen_faults self.old) (link_faults self.old) (listen_faults self.new) (link_faults self.new) }
+        ensures quiet { listen_faults self.new ≡ listen_faults self.old }
         ensures plan { plan self.new ≡ plan self.old };
 
     /// Closes a link.
     fn close(&mut self, number: u32)
         ensures history { Records (Close number) (history self.old) (history self.new) }
         ensures counts { NeverFall (listen_faults self.old) (link_faults self.old) (listen_faults self.new) (link_faults self.new) }
+        ensures quiet { listen_faults self.new ≡ listen_faults self.old }
         ensures plan { plan self.new ≡ plan self.old };
 }

@@ -34,7 +34,8 @@ pub struct ScriptPorts {
     calls: CallRecord,
     texts: SentTexts,
     starved: bool,
-    starvations: u64,
+    starved_accepts: u64,
+    starved_calls: u64,
 }
 
 impl Model for ScriptPorts {
@@ -44,7 +45,7 @@ impl Model for ScriptPorts {
 
     ghost Value = { Scripted };
 
-    ghost view = { λ ports. record { plan = ports.player.plan; calls = ports.calls; starved = ports.starved; starvations = ports.starvations } };
+    ghost view = { λ ports. record { plan = ports.player.plan; calls = ports.calls; starved = ports.starved; starved_accepts = ports.starved_accepts; starved_calls = ports.starved_calls } };
 
     ghost invariant = { λ ports. ports.starved ≡ false → IsFollowed ports.player ports.calls (text_at ports.texts) };
 }
@@ -58,7 +59,7 @@ impl ScriptPorts {
         sends: Vec<usize>,
     ) -> Result<ScriptPorts, AllocError>
         requires { All HasBytes events.items }
-        ensures { IfOk result (λ ports. ports ≡ record { plan = record { events = events.items; sends = sends.items }; calls = []; starved = false; starvations = 0 }) }
+        ensures { IfOk result (λ ports. ports ≡ record { plan = record { events = events.items; sends = sends.items }; calls = []; starved = false; starved_accepts = 0; starved_calls = 0 }) }
     {
         Ok(ScriptPorts {
             alloc,
@@ -66,7 +67,8 @@ impl ScriptPorts {
             calls: CallRecord::new(alloc),
             texts: BTreeMap::new(alloc),
             starved: false,
-            starvations: 0,
+            starved_accepts: 0,
+            starved_calls: 0,
         })
     }
 
@@ -107,6 +109,7 @@ impl Ports for ScriptPorts {
         ensures history { Records (Accept number result) (told_history self.old) (told_history self.new) }
         ensures cause { IsErr result → Rose (listen_count self.old) (listen_count self.new) }
         ensures counts { NeverFall (listen_count self.old) (link_count self.old) (listen_count self.new) (link_count self.new) }
+        ensures quiet { OnOk result (listen_count self.new ≡ listen_count self.old) }
         ensures plan { its_plan self.new ≡ its_plan self.old }
         ensures starved { is_err result ≡ self.new.starved }
         ensures answered { self.new.starved ≡ false → IsAnswered (Accept number result) (playing self.old.plan self.old.calls) }
@@ -114,7 +117,7 @@ impl Ports for ScriptPorts {
         let answer = Ok(self.player.accept(number));
         if self.starved || self.calls.accept(number, answer).is_err() {
             self.starved = true;
-            self.starvations = raised(self.starvations);
+            self.starved_accepts = raised(self.starved_accepts);
             return Err(ListenFault);
         }
         answer
@@ -126,6 +129,7 @@ impl Ports for ScriptPorts {
         ensures within { ReadsWithin (length buf.old) result }
         ensures cause { result ≡ ReadLost → Rose (link_count self.old number) (link_count self.new number) }
         ensures counts { NeverFall (listen_count self.old) (link_count self.old) (listen_count self.new) (link_count self.new) }
+        ensures quiet { listen_count self.new ≡ listen_count self.old }
         ensures plan { its_plan self.new ≡ its_plan self.old }
         ensures starved { self.new.starved ≡ true → result ≡ ReadLost }
         ensures answered { self.new.starved ≡ false → IsAnswered (Read number (length buf.old) (answer_of_read result buf.new)) (playing self.old.plan self.old.calls) }
@@ -133,7 +137,7 @@ impl Ports for ScriptPorts {
         let answer = self.player.read(number, buf);
         if self.starved || self.calls.read(number, buf, answer).is_err() {
             self.starved = true;
-            self.starvations = raised(self.starvations);
+            self.starved_calls = raised(self.starved_calls);
             return PortRead::Lost;
         }
         answer
@@ -142,13 +146,14 @@ impl Ports for ScriptPorts {
     fn now(&mut self) -> u64
         ensures history { Records (Now result) (told_history self.old) (told_history self.new) }
         ensures counts { NeverFall (listen_count self.old) (link_count self.old) (listen_count self.new) (link_count self.new) }
+        ensures quiet { listen_count self.new ≡ listen_count self.old }
         ensures plan { its_plan self.new ≡ its_plan self.old }
         ensures answered { self.new.starved ≡ false → IsAnswered (Now result) (playing self.old.plan self.old.calls) }
     {
         let reading = self.player.now();
         if self.starved || self.calls.now(reading).is_err() {
             self.starved = true;
-            self.starvations = raised(self.starvations);
+            self.starved_calls = raised(self.starved_calls);
         }
         reading
     }
@@ -158,6 +163,7 @@ impl Ports for ScriptPorts {
         ensures within { TakesWithin (length bytes.now) result }
         ensures cause { result ≡ SendLost → Rose (link_count self.old number) (link_count self.new number) }
         ensures counts { NeverFall (listen_count self.old) (link_count self.old) (listen_count self.new) (link_count self.new) }
+        ensures quiet { listen_count self.new ≡ listen_count self.old }
         ensures plan { its_plan self.new ≡ its_plan self.old }
         ensures starved { self.new.starved ≡ true → result ≡ SendLost }
         ensures answered { self.new.starved ≡ false → IsAnswered (Send number bytes.now result) (playing self.old.plan self.old.calls) }
@@ -172,7 +178,7 @@ impl Ports for ScriptPorts {
             || self.calls.send(number, bytes, answer).is_err()
         {
             self.starved = true;
-            self.starvations = raised(self.starvations);
+            self.starved_calls = raised(self.starved_calls);
             return PortSend::Lost;
         }
         answer
@@ -181,126 +187,7 @@ impl Ports for ScriptPorts {
     fn close(&mut self, number: u32) {
         if self.starved || self.player.close(number).is_err() || self.calls.close(number).is_err() {
             self.starved = true;
-            self.starvations = raised(self.starvations);
+            self.starved_calls = raised(self.starved_calls);
         }
-    }
-}
-
-#[cfg(test)]
-mod tests {
-    use super::*;
-    use octets::Octets;
-    use std::test::Fail;
-
-    fn add(events: &mut Vec<Event>, event: Event) -> Result<(), Fail>
-        requires all { All HasBytes events.old.items }
-        requires bytes { HasBytes event }
-        ensures { OnOk result (All HasBytes events.new.items) }
-    {
-        events.push(event)?;
-        Ok(())
-    }
-
-    fn add_piece(
-        alloc: Global,
-        events: &mut Vec<Event>,
-        number: u32,
-        bytes: &[u8],
-        moment: u64,
-    ) -> Result<(), Fail>
-        requires all { All HasBytes events.old.items }
-        requires bytes { 0 < length bytes.now }
-        ensures { OnOk result (All HasBytes events.new.items) }
-    {
-        let bytes = Octets::new(bytes.to_vec(alloc)?);
-        add(
-            events,
-            Event::Piece {
-                number,
-                bytes,
-                moment,
-            },
-        )
-    }
-
-    // Two sessions. The first is closed before its last piece.
-    fn two_sessions(alloc: Global) -> Result<Vec<Event>, Fail>
-        ensures { IfOk result (λ events. All HasBytes events.items) }
-    {
-        let mut events = Vec::new(alloc);
-        add(&mut events, Event::Opens(Kind::Imap))?;
-        add_piece(alloc, &mut events, 1, b"abc", 5)?;
-        add(&mut events, Event::Opens(Kind::Lmtp))?;
-        add_piece(alloc, &mut events, 1, b"unread", 6)?;
-        add_piece(alloc, &mut events, 2, b"x", 9)?;
-        add(&mut events, Event::Ends(1))?;
-        add(&mut events, Event::Ends(2))?;
-        add(&mut events, Event::Loses(2))?;
-        Ok(events)
-    }
-
-    // A call with the answer that it is to have.
-    #[derive(Clone, Copy)]
-    enum Step {
-        Accept(u32, Option<Kind>),
-        // Into a buffer of two bytes; then the bytes in it, and the clock's reading after that.
-        Read(u32, PortRead, [u8; 2], u64),
-        Send(u32, PortSend),
-        Close(u32),
-    }
-
-    // Two sessions. A buffer that is too short leaves the rest of a piece as the next event, and the events of the
-    // closed session are skipped.
-    const STEPS: [Step; 19] = [
-        Step::Read(1, PortRead::Quiet, [0, 0], 0),
-        Step::Accept(1, Some(Kind::Imap)),
-        Step::Accept(2, None),
-        Step::Read(2, PortRead::Quiet, [0, 0], 0),
-        Step::Read(1, PortRead::Bytes(2), [b'a', b'b'], 5),
-        Step::Read(1, PortRead::Bytes(1), [b'c', 0], 5),
-        Step::Read(1, PortRead::Quiet, [0, 0], 5),
-        Step::Accept(2, Some(Kind::Lmtp)),
-        Step::Send(1, PortSend::Took(0)),
-        Step::Send(1, PortSend::Took(1)),
-        Step::Send(1, PortSend::Took(7)),
-        Step::Send(1, PortSend::Took(8)),
-        Step::Send(9, PortSend::Took(8)),
-        Step::Close(1),
-        Step::Read(1, PortRead::Quiet, [0, 0], 5),
-        Step::Read(2, PortRead::Bytes(1), [b'x', 0], 9),
-        Step::Read(2, PortRead::Ended, [0, 0], 9),
-        Step::Send(2, PortSend::Lost),
-        Step::Read(2, PortRead::Quiet, [0, 0], 9),
-    ];
-
-    fn is_answered(ports: &mut ScriptPorts, step: Step) -> bool {
-        match step {
-            Step::Accept(number, kind) => ports.accept(number) == Ok(kind),
-            Step::Read(number, answer, bytes, now) => {
-                let mut buf = [0; 2];
-                ports.read(number, &mut buf) == answer && buf == bytes && ports.now() == now
-            }
-            Step::Send(number, answer) => ports.send(number, b"12345678") == answer,
-            Step::Close(number) => {
-                ports.close(number);
-                true
-            }
-        }
-    }
-
-    #[test]
-    fn plays_two_sessions(rt: HostRuntime) -> Result<(), Fail> {
-        let alloc = rt.alloc();
-        let sends = vec![in alloc; 0, 1, 7]?;
-        let mut ports = ScriptPorts::new(alloc, two_sessions(alloc)?, sends)?;
-        for (i, step) in STEPS.iter().enumerate() {
-            assert_eq!(rt; ports.done(), i == STEPS.len() - 1, "before step {i}");
-            assert!(rt; is_answered(&mut ports, *step), "at step {i}");
-        }
-        assert!(rt; !ports.starved());
-        assert_eq!(rt; ports.sent(1), b"1123456712345678".as_slice());
-        assert_eq!(rt; ports.sent(2), b"".as_slice());
-        assert_eq!(rt; ports.sent(9), b"12345678".as_slice());
-        Ok(())
     }
 }

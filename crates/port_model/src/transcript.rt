@@ -106,25 +106,3 @@ fn hexadecimal_digit(value: u8) -> u8
         b'a' + (value - 10)
     }
 }
-
-#[cfg(test)]
-mod tests {
-    use super::*;
-    use std::test::Fail;
-
-    #[test]
-    fn lines_tell_the_session(rt: HostRuntime) -> Result<(), Fail> {
-        let mut out = Vec::new(rt.alloc());
-        print_session(
-            &mut out,
-            1,
-            b"* OK IMAP4rev1 ready\r\na OK NOOP completed\r\n",
-        )?;
-        print_session(&mut out, 2, b"")?;
-        print_session(&mut out, 4294967295, b"\n~\\ \t\xfe\x7f\n\x00")?;
-        let expected = b"1: * OK IMAP4rev1 ready\\r\\n\n1: a OK NOOP completed\\r\\n\n\
-            4294967295: \\n\n4294967295: ~\\\\ \\x09\\xfe\\x7f\\n\n4294967295: \\x00\n";
-        assert_eq!(rt; out.as_slice(), expected.as_slice());
-        Ok(())
-    }
-}

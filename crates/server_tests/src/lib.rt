@@ -3,3 +3,5 @@
 
 #[cfg(test)]
 mod mail_server_tests;
+#[cfg(test)]
+mod port_model_tests;

@@ -12,8 +12,8 @@ use Rattle.mail_server.proofs.script.play_on.Goals as goal
 
 pub run_rounds-requires-clause-on_script : goal.run_rounds-requires-clause-on_script
 run_rounds-requires-clause-on_script g c =
-    let e : c.in_ok-ports.ports ≡ record { plan = plan_of c.args.events.items; calls = []; starved = false; starvations = 0 } =
-    subst (λ (sends : List ℕ). c.in_ok-ports.ports ≡ record { plan = record { events = c.args.events.items; sends = sends }; calls = []; starved = false; starvations = 0 }) c.new.ensures.items c.in_ok-ports.ensures in
+    let e : c.in_ok-ports.ports ≡ record { plan = plan_of c.args.events.items; calls = []; starved = false; starved_accepts = 0; starved_calls = 0 } =
+    subst (λ (sends : List ℕ). c.in_ok-ports.ports ≡ record { plan = record { events = c.args.events.items; sends = sends }; calls = []; starved = false; starved_accepts = 0; starved_calls = 0 }) c.new.ensures.items c.in_ok-ports.ensures in
     subst (λ (script : List Event). IsOnScript script c.in_ok-ports.ports (held c.args.server.now)) (sym (ap (λ (p : Scripted). p.plan.events) e))
     (script_begins c.args.events.items c.in_ok-ports.ports (held c.args.server.now) c.requires.kept c.requires.fresh e)
 
