@@ -1,20 +1,8 @@
 -- Texts without the blanks at their ends.
-use Rattle.std.proofs.Common.{◌≡◌, ℕ, ◌+◌, ◌<◌, Bool, true, false, List, [], ◌∷◌, ◌++◌, length, get_or, take, drop, sym, ◌∙◌, ap}
+use Rattle.std.proofs.Common.{◌≡◌, ℕ, ◌+◌, ◌<◌, true, false, List, [], ◌∷◌, ◌++◌, length, get_or, take, sym, ◌∙◌, ap}
 use Rattle.std.proofs.lemmas.Bool.{cond-true, cond-false}
-use Rattle.std.proofs.lemmas.List.{drop_more, take_more}
-use Rattle.mail_text.specs.Texts.{behind, is_blank, before_trimmed, without_blank_end}
-
-pub behind_more : (test : ℕ → Bool) (text : List ℕ) (at : ℕ) → at < length text → test (get_or text at 0) ≡ true →
-    behind test (drop at text) ≡ behind test (drop (at + 1) text)
-behind_more test text at h is =
-    let rest = drop (at + 1) text in
-    ap (behind test) (drop_more text at 0 h) ∙ cond-true (test (get_or text at 0)) (behind test rest) (get_or text at 0 ∷ rest) is
-
-pub behind_stays : (test : ℕ → Bool) (text : List ℕ) (at : ℕ) → at < length text → test (get_or text at 0) ≡ false →
-    behind test (drop at text) ≡ drop at text
-behind_stays test text at h isnt =
-    let rest = drop (at + 1) text in
-    ap (behind test) (drop_more text at 0 h) ∙ cond-false (test (get_or text at 0)) (behind test rest) (get_or text at 0 ∷ rest) isnt ∙ sym (drop_more text at 0 h)
+use Rattle.std.proofs.lemmas.List.{take_more}
+use Rattle.mail_text.specs.Texts.{is_blank, before_trimmed, without_blank_end}
 
 blank_end : (x : List ℕ) (c : ℕ) → is_blank c ≡ true → without_blank_end (x ++ c ∷ []) ≡ without_blank_end x
 blank_end [] c is = cond-true (is_blank c) [] (c ∷ []) is

@@ -1,3 +1,4 @@
+pub mod FrontLemmas
 pub mod LineLemmas
 pub mod PieceLemmas
 pub mod BlankLemmas

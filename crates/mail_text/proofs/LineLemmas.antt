@@ -1,9 +1,10 @@
 -- How the lines of texts go together.
-use Rattle.std.proofs.Common.{◌≡◌, ℕ, suc, ◌+◌, ◌-◌, ◌<◌, length, get_or, take, drop, arith, length-take, Bool, true, false, cond, ◌&&◌, eqb, List, [], ◌∷◌, ◌++◌, refl, sym, ◌∙◌, ap, subst, inl, inr}
-use Rattle.std.proofs.lemmas.Bool.{cond_both, and_right, or_parts, or_from, false_from_ne_true}
-use Rattle.std.proofs.lemmas.List.{append_assoc, take-append-drop, drop_more, get_or-take}
+use Rattle.std.proofs.Common.{◌≡◌, ℕ, suc, ◌+◌, ◌-◌, ◌<◌, ◌≤◌, ◌↔◌, length, length-append, get_or, take, drop, arith, length-take, Bool, true, false, cond, ◌&&◌, eqb, List, [], ◌∷◌, ◌++◌, refl, sym, ◌∙◌, ap, subst, inl, inr}
+use Rattle.std.proofs.lemmas.Bool.{cond_both, and_right, or_parts, or_from}
+use Rattle.std.proofs.lemmas.List.{append_assoc, append_cancel_left, take-append-drop, drop_more, get_or-take}
 use Rattle.mail_text.specs.Texts.{begins}
 use Rattle.mail_text.specs.Lines.{put, is_lf, lines, joined, IsCrlf, has, ends_in_cr, AreLines, IsFirstLine, IsWithoutReturn}
+use Rattle.mail_text.proofs.FrontLemmas.{has_none}
 
 pub put-some : (c : ℕ) (ls : List (List ℕ)) → put c ls ≡ [] → ⊥
 put-some c [] e = cc
@@ -121,14 +122,9 @@ pub at_lf : (text : List ℕ) (at : ℕ) → at < length text → get_or text at
 at_lf text at h e =
     sym (take-append-drop at text) ∙ ap (λ z. take at text ++ z) (drop_more text at 0 h ∙ ap (λ c. c ∷ drop (at + 1) text) e)
 
-pub has_none : (text : List ℕ) → ((k : ℕ) → k < length text → eqb (get_or text k 0) 10 ≡ true → ⊥) → has 10 text ≡ false
-has_none [] none = refl
-has_none (c ∷ cs) none =
-    or_from (eqb c 10) (has 10 cs) (false_from_ne_true (eqb c 10) (none 0 (omega arith))) (has_none cs (λ k h e. none (suc k) (omega arith) e))
-
 pub has_none_before : (text : List ℕ) (at : ℕ) → ((k : ℕ) → k < at → eqb (get_or text k 0) 10 ≡ true → ⊥) → has 10 (take at text) ≡ false
 has_none_before text at none =
-    has_none (take at text) (λ k h e.
+    has_none 10 (take at text) (λ k h e.
     let below : k < at = omega (arith, simp length-take at h) in
     none k below (rw (sym (get_or-take at text k 0 below)) e))
 
@@ -141,3 +137,34 @@ ends-last (c ∷ d ∷ ds) h = ends-last (d ∷ ds) (omega arith) ∙ ap (λ n. 
 pub joined_first : (text line rest : List ℕ) → IsFirstLine text line rest → joined (lines text) ≡ line ++ 13 ∷ 10 ∷ joined (lines rest)
 joined_first text line rest f =
     ap joined (ap lines f.text_is ∙ f.lines_are rest) ∙ joined_more line (lines rest) (lines-some rest)
+
+-- Whether each LF stands behind a CR, line by line.
+
+pub crlf_first : (text line rest : List ℕ) → IsFirstLine text line rest → length line + 2 + length rest ≤ length text → IsCrlf text ↔ IsCrlf rest
+crlf_first text line rest f long = elim f.is_ending [
+  | inl crlf ↦
+      let is : text ≡ line ++ 13 ∷ 10 ∷ rest = f.text_is ∙ ap (λ e. line ++ (e ++ rest)) crlf in
+      let whole = joined_first text line rest f in (
+        (λ h. append_cancel_left (line ++ 13 ∷ 10 ∷ []) _ _ (append_assoc line (13 ∷ 10 ∷ []) (joined (lines rest)) ∙ sym whole ∙ h ∙ is ∙ sym (append_assoc line (13 ∷ 10 ∷ []) rest))),
+        (λ h. whole ∙ ap (λ z. line ++ 13 ∷ 10 ∷ z) h ∙ sym is),
+      )
+  | inr lf ↦
+      let is : text ≡ line ++ 10 ∷ rest = f.text_is ∙ ap (λ e. line ++ (e ++ rest)) lf in
+      let size = ap length is ∙ length-append line (10 ∷ rest) in
+      absurd (omega arith)
+]
+
+pub not_crlf : (text line rest : List ℕ) → IsFirstLine text line rest → length text < length line + 2 + length rest → IsCrlf text → ⊥
+not_crlf text line rest f short h = elim f.is_ending [
+  | inl crlf ↦
+      let is : text ≡ line ++ 13 ∷ 10 ∷ rest = f.text_is ∙ ap (λ e. line ++ (e ++ rest)) crlf in
+      let size = ap length is ∙ length-append line (13 ∷ 10 ∷ rest) in
+      absurd (omega arith)
+  | inr lf ↦
+      let is : text ≡ line ++ 10 ∷ rest = f.text_is ∙ ap (λ e. line ++ (e ++ rest)) lf in
+      let same : 13 ∷ 10 ∷ joined (lines rest) ≡ 10 ∷ rest = append_cancel_left line _ _ (sym (joined_first text line rest f) ∙ h ∙ is) in
+      cc
+]
+
+pub crlf_last : (text : List ℕ) → lines text ≡ text ∷ [] → IsCrlf text
+crlf_last text one = ap joined one

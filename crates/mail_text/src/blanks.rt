@@ -2,11 +2,24 @@
 ghost use Rattle.std.specs.Prelude.{◌≡◌};
 ghost use Rattle.mail_text.specs.Texts.{behind, is_blank as is_blank_of, trimmed, without_blank_end};
 
+use crate::fronts::{ByteClass, front_len};
+
 /// Whether a byte is a space or a tab.
 pub fn is_blank(b: u8) -> bool
     ensures { result ≡ is_blank_of b }
 {
     b == b' ' || b == b'\t'
+}
+
+/// Spaces and tabs.
+struct Blank;
+
+impl ByteClass for Blank {
+    ghost test = { is_blank_of };
+
+    fn contains(b: u8) -> bool {
+        is_blank(b)
+    }
 }
 
 /// A text without blanks at both ends.
@@ -20,11 +33,7 @@ pub fn trim(text: &[u8]) -> &[u8]
 pub fn trim_start(text: &[u8]) -> &[u8]
     ensures { result.now ≡ behind is_blank_of text.now }
 {
-    let mut start = 0;
-    while start < text.len() && is_blank(text[start]) {
-        start += 1;
-    }
-    &text[start..]
+    &text[front_len::<Blank>(text)..]
 }
 
 /// A text without the blanks at its end.

@@ -1,6 +1,6 @@
 //! Lines and line ends. A line ends with CRLF in mail (RFC 5322 §2.1); where a text comes from elsewhere, a LF alone does too.
-ghost use Rattle.std.specs.Prelude.{◌≡◌, ◌∷◌, [], IfOk, MatchOption, map};
-ghost use Rattle.mail_text.specs.Lines.{IsFirstLine, IsWithoutReturn, LineLaws, joined, lines as lines_of, pieces};
+ghost use Rattle.std.specs.Prelude.{◌≡◌, ◌↔◌, ◌∷◌, [], IfOk, IsTrue, MatchOption, map};
+ghost use Rattle.mail_text.specs.Lines.{IsCrlf, IsFirstLine, IsWithoutReturn, LineLaws, joined, lines as lines_of, pieces};
 
 use memchr::memchr;
 use std::alloc::{AllocError, Global};
@@ -37,6 +37,20 @@ pub fn split_crlf(text: &[u8]) -> Option<(&[u8], &[u8])>
         }
     }
     None
+}
+
+/// Whether each LF of a text stands behind a CR, so that `crlf` would give the text as it is.
+pub fn is_crlf(text: &[u8]) -> bool
+    ensures { IsTrue result ↔ IsCrlf text.now }
+{
+    let mut rest = text;
+    while let Some((line, behind)) = split_line(rest) {
+        if rest.len() - behind.len() < line.len() + 2 {
+            return false;
+        }
+        rest = behind;
+    }
+    true
 }
 
 /// A text with each LF that has no CR before it made a CRLF.

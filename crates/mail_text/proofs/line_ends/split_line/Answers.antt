@@ -2,7 +2,8 @@ use Rattle.std.proofs.Common.{◌++◌, ◌∷◌, ◌+◌, take, drop, sym, sub
 use Rattle.std.proofs.lemmas.Bool.{eqb-true}
 use Rattle.std.proofs.lemmas.List.{take_rest}
 use Rattle.mail_text.specs.Lines.{IsFirstLine}
-use Rattle.mail_text.proofs.LineLemmas.{first_line, has_none, has_none_before, lines-one, at_lf}
+use Rattle.mail_text.proofs.FrontLemmas.{has_none}
+use Rattle.mail_text.proofs.LineLemmas.{first_line, has_none_before, lines-one, at_lf}
 use Rattle.mail_text.proofs.line_ends.split_line.Goals as goal
 
 pub returns-in-Some : goal.returns-in-Some
@@ -20,4 +21,4 @@ returns-in-Some c =
 pub returns-in-None : goal.returns-in-None
 returns-in-None c =
     let text = c.args.text.now in
-    lines-one text (has_none text (λ k below. c.in-None.ensures k (omega arith) below))
+    lines-one text (has_none 10 text (λ k below. c.in-None.ensures k (omega arith) below))

@@ -1,0 +1,5 @@
+//! Tests of the public calls of the crates that texts are read and written with: tables of inputs and what they give.
+#![tactic(auto)]
+
+#[cfg(test)]
+mod mail_text_tests;
