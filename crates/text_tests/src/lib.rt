@@ -3,3 +3,5 @@
 
 #[cfg(test)]
 mod mail_text_tests;
+#[cfg(test)]
+mod transfer_codec_tests;

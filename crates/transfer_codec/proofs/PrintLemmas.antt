@@ -1,13 +1,17 @@
 -- Base64 printed line by line.
-use Rattle.std.proofs.Common.{◌≡◌, ℕ, suc, ◌+◌, ◌*◌, ◌/◌, ◌%◌, ◌<◌, ◌≤◌, inl, inr, List, [], ◌∷◌, ◌++◌, length, take, drop, true, refl, sym, ◌∙◌, ap, arith}
+use Rattle.std.proofs.Common.{◌≡◌, ℕ, zero, suc, min, replicate, ◌+◌, ◌-◌, ◌*◌, ◌/◌, ◌%◌, ◌<◌, ◌≤◌, inl, inr, List, [], ◌∷◌, ◌++◌, length, take, drop, true, refl, sym, ◌∙◌, ap, arith}
 use Rattle.std.specs.List.{flat_map}
 use Rattle.std.proofs.lemmas.Bool.{cases_lt}
-use Rattle.std.proofs.lemmas.List.{length-take, take-append-drop, take_at, drop_at, take_all, drop_all}
+use Rattle.std.proofs.lemmas.List.{length-append, length-drop, length-take, take-append-drop, take_at, drop_at, take_all, drop_all, take_min, drop_min}
 use Rattle.base64.specs.Rfc4648.{encode_symbols, encode_group, encoded_size}
+use Rattle.base64.specs.GeneralPurpose.{IsEncodedOver, encode_of, encoded_size_of}
+use Rattle.base64.specs.declared.engine.general_purpose.GeneralPurpose.{GeneralPurpose}
+use Rattle.transfer_codec.specs.Engines.{IsStandard}
 use Rattle.transfer_codec.specs.Base64.{letters, base64}
-use Rattle.transfer_codec.specs.Layout.{ended, pieces_of, printed64}
+use Rattle.transfer_codec.specs.Layout.{ended, pieces_of, printed64, printed64_size}
 use Rattle.transfer_codec.proofs.DecodeLemmas.{base64_more}
 use Rattle.transfer_codec.proofs.LineLemmas.{pieces_more}
+use Rattle.transfer_codec.proofs.StandardLemmas.{encodes_standard}
 
 pub length-base64 : (bytes : List ℕ) → length (base64 bytes) ≡ (length bytes + 2) / 3 * 4
 unfolding encode_symbols
@@ -59,3 +63,45 @@ printed_none (c ∷ cs) h = absurd (omega arith)
 
 pub encoded_size_is : (n : ℕ) → encoded_size n true ≡ (n + 2) / 3 * 4
 encoded_size_is n = omega arith
+
+-- How long a print is.
+sizes : (n line behind letters rest : ℕ) → 0 < n → line ≡ min 57 n → behind ≡ n - 57 → letters ≡ (line + 2) / 3 * 4 → rest ≡ printed64_size behind →
+    letters + 2 + rest ≡ printed64_size n
+sizes n line behind letters rest some is_line is_behind is_letters is_rest = elim (cases_lt 57 n) [
+  | inl long ↦ omega arith
+  | inr short ↦ omega arith
+]
+
+size_by : (turns : ℕ) (bytes : List ℕ) → length bytes ≤ turns → length (printed64 bytes) ≡ printed64_size (length bytes)
+size_by turns [] h = ap length (printed_none [] refl)
+size_by zero (c ∷ cs) h = absurd (omega arith)
+size_by (suc turns) (c ∷ cs) h =
+    let bytes = c ∷ cs in
+    let line = take 57 bytes in
+    let behind = drop 57 bytes in
+    ap length (printed_more bytes (omega arith)) ∙ length-append (ended (base64 line)) (printed64 behind)
+    ∙ ap (λ k. k + length (printed64 behind)) (length-append (base64 line) (13 ∷ 10 ∷ []))
+    ∙ sizes (length bytes) (length line) (length behind) (length (base64 line)) (length (printed64 behind)) (omega arith) (length-take 57 bytes) (length-drop 57 bytes)
+    (length-base64 line) (size_by turns behind (omega (arith, length-drop 57 bytes)))
+
+pub printed_size : (bytes : List ℕ) → length (printed64 bytes) ≡ printed64_size (length bytes)
+printed_size bytes = size_by (length bytes) bytes (omega arith)
+
+pub line_size : (engine : GeneralPurpose) (n : ℕ) → IsStandard engine → encoded_size_of engine n ≡ (n + 2) / 3 * 4
+line_size engine n standard = ap (encoded_size n) standard.strict.0 ∙ encoded_size_is n
+
+-- What an engine wrote over the space for a line.
+pub letters_are : (engine : GeneralPurpose) (bytes output : List ℕ) (len : ℕ) → IsStandard engine → len ≡ encoded_size_of engine (length bytes) →
+    IsEncodedOver engine bytes (replicate 76 0) output → take len output ≡ base64 bytes
+letters_are engine bytes output len standard len_is written =
+    let size = line_size engine (length bytes) standard in
+    let symbols = encodes_standard engine bytes standard in
+    ap (take len) written ∙ take_at (encode_of engine bytes) _ len (ap length symbols ∙ length-base64 bytes ∙ sym (len_is ∙ size)) ∙ symbols
+
+-- The line that is cut off the front of what is left.
+pub line_is : (rest line behind : List ℕ) (at : ℕ) → 0 < length rest → at ≡ min 57 (length rest) → line ≡ take at rest → behind ≡ drop at rest →
+    printed64 rest ≡ ended (base64 line) ++ printed64 behind
+line_is rest line behind at some is front back =
+    let line_at : line ≡ take 57 rest = front ∙ ap (λ n. take n rest) is ∙ take_min 57 rest in
+    let behind_at : behind ≡ drop 57 rest = back ∙ ap (λ n. drop n rest) is ∙ drop_min 57 rest in
+    printed_more rest some ∙ ap (λ z. ended (base64 z) ++ printed64 (drop 57 rest)) (sym line_at) ∙ ap (λ z. ended (base64 line) ++ printed64 z) (sym behind_at)

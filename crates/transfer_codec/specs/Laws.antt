@@ -6,7 +6,7 @@ use Rattle.base64.specs.GeneralPurpose.{IsBytes}
 use Rattle.mail_text.specs.Lines.{IsCrlf, has, lines}
 use Rattle.mail_text.specs.Texts.{is_blank, without_blank_end}
 use Rattle.transfer_codec.specs.Base64.{base64, decoded}
-use Rattle.transfer_codec.specs.Layout.{decoded64, pieces_of, printed64}
+use Rattle.transfer_codec.specs.Layout.{decoded64, pieces_of, printed64, printed64_size}
 use Rattle.transfer_codec.specs.Quoted.{decoded_quoted, escape, is_hex, unescaped, without_equals}
 
 pub record Base64Laws : Type 0 where
@@ -19,6 +19,7 @@ pub record Base64Laws : Type 0 where
   pub lines_are : (bytes : List ℕ) → IsBytes bytes → lines (printed64 bytes) ≡ pieces_of 76 (base64 bytes) ++ [] ∷ []
   pub short : (bytes : List ℕ) → IsBytes bytes → AllByRecursion (λ line. length line ≤ 76) (lines (printed64 bytes))
   pub is_crlf : (bytes : List ℕ) → IsBytes bytes → IsCrlf (printed64 bytes)
+  pub size : (bytes : List ℕ) → length (printed64 bytes) ≡ printed64_size (length bytes)
   -- No zero byte and no dash stands in them, so no line could be taken for a delimiter between parts (RFC 2046 §5.1.1).
   pub no_zero : (bytes : List ℕ) → IsBytes bytes → has 0 (printed64 bytes) ≡ false
   pub no_dash : (bytes : List ℕ) → IsBytes bytes → has 45 (printed64 bytes) ≡ false

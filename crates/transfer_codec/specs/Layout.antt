@@ -1,5 +1,5 @@
 -- Base64 as the body of a message, in lines (RFC 2045 §6.8).
-use Rattle.std.specs.Prelude.{ℕ, zero, suc, Bool, not, ◌||◌, ◌==◌, List, [], ◌∷◌, ◌++◌, length, take, drop, Option}
+use Rattle.std.specs.Prelude.{ℕ, zero, suc, ◌+◌, ◌*◌, ◌/◌, Bool, not, ◌||◌, ◌==◌, List, [], ◌∷◌, ◌++◌, length, take, drop, Option}
 use Rattle.std.specs.List.{filter, flat_map}
 use Rattle.mail_text.specs.Texts.{is_blank}
 use Rattle.transfer_codec.specs.Base64.{base64, decoded}
@@ -35,3 +35,7 @@ ended line = line ++ 13 ∷ 10 ∷ []
 -- The base64 of bytes in lines of 76 letters, of which the last may be shorter, each with a CRLF.
 unfoldable pub printed64 : List ℕ → List ℕ
 printed64 bytes = flat_map ended (pieces_of 76 (base64 bytes))
+
+-- How long the print of so many bytes is: four letters for each three bytes begun, and a CRLF for each 57.
+abbrev pub printed64_size : ℕ → ℕ
+printed64_size size = (size + 2) / 3 * 4 + (size + 56) / 57 * 2

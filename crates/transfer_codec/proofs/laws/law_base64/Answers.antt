@@ -6,6 +6,7 @@ use Rattle.transfer_codec.specs.Base64.{decoded, base64}
 use Rattle.transfer_codec.specs.Layout.{pieces_of, printed64}
 use Rattle.transfer_codec.proofs.DecodeLemmas.{decoded-base64, decoded_exact, decoded_bytes}
 use Rattle.transfer_codec.proofs.SymbolLemmas.{base64-symbols, symbols_lack, symbols_content, no_zero_bits, no_dash_bits, no_lf_bits}
+use Rattle.transfer_codec.proofs.PrintLemmas.{printed_size}
 use Rattle.transfer_codec.proofs.LineLemmas.{content_of_lines, lines_lack, ended_lack, lines-ended, joined-ended, lines_short}
 use Rattle.transfer_codec.proofs.laws.law_base64.Goals as goal
 
@@ -23,6 +24,7 @@ returns c =
       lines_are = lines_are;
       short = λ bytes h. subst (AllByRecursion (λ line. length line ≤ 76)) (sym (lines_are bytes h)) (lines_short 76 (length (base64 bytes)) (base64 bytes));
       is_crlf = λ bytes h. ap joined (lines_are bytes h) ∙ joined-ended (pieces_of 76 (base64 bytes));
+      size = printed_size;
       no_zero = λ bytes h. let text = base64 bytes in
           ended_lack 0 (pieces_of 76 text) refl (lines_lack 0 76 (length text) text (symbols_lack 0 no_zero_bits refl text (base64-symbols bytes h)));
       no_dash = λ bytes h. let text = base64 bytes in
