@@ -1,0 +1,9 @@
+pub mod Refusals
+pub mod Tagged
+pub mod Texts
+pub mod Sets
+pub mod Spaced
+pub mod Flags
+pub mod Lines
+pub mod Statuses
+pub mod Fetches
