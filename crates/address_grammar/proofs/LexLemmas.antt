@@ -1,11 +1,12 @@
 -- The pieces of a text, byte by byte.
-use Rattle.std.proofs.Common.{◌≡◌, ℕ, ◌+◌, ◌-◌, ◌<◌, ◌≤◌, true, false, cond, ◌&&◌, ◌||◌, eqb, List, [], ◌∷◌, ◌++◌, length, get_or, take, drop, None, sym, ◌∙◌, ap, subst, arith}
-use Rattle.std.proofs.lemmas.Bool.{cond_both, eq-eqb, and_from}
+use Rattle.std.proofs.Common.{◌≡◌, ℕ, ◌+◌, ◌-◌, ◌<◌, ◌≤◌, true, false, cond, ◌&&◌, ◌||◌, eqb, List, [], ◌∷◌, ◌++◌, length, get_or, take, drop, None, inl, inr, sym, ◌∙◌, ap, subst, arith}
+use Rattle.std.proofs.lemmas.Bool.{cases_Bool, cond-true, cond-false, cond_both, eq-eqb, and_from}
 use Rattle.std.proofs.lemmas.List.{drop_more, drop_all, take_more, append-nil}
+use Rattle.mail_text.specs.Texts.{front, behind}
 use Rattle.address_grammar.specs.declared.pieces.Piece.TheVariants.{Run, Quoted, Comment, Literal}
 use Rattle.address_grammar.specs.Pieces.{is_plain, before, onto, depth_behind, pieces, in_run, in_quotes, quotes_pair, in_comment, comment_pair, in_literal}
 use Rattle.address_grammar.specs.Found.{IsPiece}
-use Rattle.address_grammar.proofs.PieceLemmas.{pieces_none, run_none, run_more, run_ends, quotes_none, quotes_end, quotes_more, quotes_escape, quotes_pair_none, quotes_pair_more, comment_none, comment_escape, comment_end, comment_more, comment_pair_none, comment_pair_more, literal_none, literal_end, literal_refused, literal_more, with_bytes-run, with_bytes-quoted, with_bytes-comment, with_bytes-literal, ontos, ontos-before, IsOpen, open_more, open_fails, open_ends}
+use Rattle.address_grammar.proofs.PieceLemmas.{pieces_none, run_none, run_more, run_ends, quotes_none, quotes_end, quotes_more, quotes_escape, quotes_pair_none, quotes_pair_more, comment_none, comment_escape, comment_end, comment_more, comment_pair_none, comment_pair_more, literal_none, literal_end, literal_refused, literal_more, with_bytes-quoted, with_bytes-comment, with_bytes-literal, onto-before, IsOpen, open_more, open_fails, open_ends}
 
 two : (rest : List ℕ) (at : ℕ) → drop (at + 1 + 1) rest ≡ drop (at + 2) rest
 two rest at = ap (λ n. drop n rest) (let e : at + 1 + 1 ≡ at + 2 = omega arith in e)
@@ -83,29 +84,17 @@ comment_open rest text at depth o none =
 
 -- Runs
 
-pub run_next : (rest : List ℕ) (at : ℕ) → IsOpen (in_run rest) (in_run (drop at rest)) rest (take at rest) at → at < length rest → is_plain (get_or rest at 0) ≡ true →
-    IsOpen (in_run rest) (in_run (drop (at + 1) rest)) rest (take (at + 1) rest) (at + 1)
-run_next rest at o h is =
-    subst (λ t. IsOpen (in_run rest) (in_run (drop (at + 1) rest)) rest t (at + 1)) (sym (take_more rest at 0 h))
-    (open_more (in_run rest) (in_run (drop at rest)) (in_run (drop (at + 1) rest)) rest (take at rest) at (get_or rest at 0) (at + 1) o (omega arith)
-    (ap in_run (drop_more rest at 0 h) ∙ run_more (get_or rest at 0) (drop (at + 1) rest) is))
-
-run_is : (rest : List ℕ) (at : ℕ) → IsOpen (in_run rest) (in_run (drop at rest)) rest (take at rest) at → in_run (drop at rest) ≡ before (Run []) (pieces (drop at rest)) →
-    in_run rest ≡ before (Run (take at rest)) (pieces (drop at rest))
-run_is rest at o ends =
-    o.is ∙ ap (ontos (take at rest)) ends ∙ ontos-before (take at rest) (Run []) (pieces (drop at rest))
-    ∙ ap (λ p. before p (pieces (drop at rest))) (with_bytes-run (take at rest) [] ∙ ap Run (append-nil (take at rest)))
-
-pub run_stops : (rest : List ℕ) (at : ℕ) → IsOpen (in_run rest) (in_run (drop at rest)) rest (take at rest) at → at < length rest → is_plain (get_or rest at 0) ≡ false →
-    in_run rest ≡ before (Run (take at rest)) (pieces (drop at rest))
-run_stops rest at o h isnt =
-    run_is rest at o (ap in_run (drop_more rest at 0 h) ∙ run_ends (get_or rest at 0) (drop (at + 1) rest) isnt ∙ ap (λ z. before (Run []) (pieces z)) (sym (drop_more rest at 0 h)))
-
-pub run_all : (rest : List ℕ) (at : ℕ) → IsOpen (in_run rest) (in_run (drop at rest)) rest (take at rest) at → length rest ≤ at →
-    in_run rest ≡ before (Run (take at rest)) (pieces (drop at rest))
-run_all rest at o none =
-    let end = drop_all at rest none in
-    run_is rest at o (ap in_run end ∙ run_none ∙ ap (before (Run [])) (sym (ap pieces end ∙ pieces_none)))
+pub run_front : (rest : List ℕ) → in_run rest ≡ before (Run (front is_plain rest)) (pieces (behind is_plain rest))
+run_front [] = run_none ∙ ap (before (Run [])) (sym pieces_none)
+run_front (c ∷ cs) = elim (cases_Bool (is_plain c)) [
+  | inl is ↦
+      run_more c cs is ∙ ap (onto c) (run_front cs) ∙ onto-before c (Run (front is_plain cs)) (pieces (behind is_plain cs))
+      ∙ ap (λ text. before (Run text) (pieces (behind is_plain cs))) (sym (cond-true (is_plain c) (c ∷ front is_plain cs) [] is))
+      ∙ ap (λ left. before (Run (front is_plain (c ∷ cs))) (pieces left)) (sym (cond-true (is_plain c) (behind is_plain cs) (c ∷ cs) is))
+  | inr isnt ↦
+      run_ends c cs isnt ∙ ap (λ text. before (Run text) (pieces (c ∷ cs))) (sym (cond-false (is_plain c) (c ∷ front is_plain cs) [] isnt))
+      ∙ ap (λ left. before (Run (front is_plain (c ∷ cs))) (pieces left)) (sym (cond-false (is_plain c) (behind is_plain cs) (c ∷ cs) isnt))
+]
 
 -- Domain literals
 

@@ -122,7 +122,7 @@ pub ontos-none : (cs : List ℕ) → ontos cs None ≡ None
 ontos-none [] = refl
 ontos-none (c ∷ cs) = ap (onto c) (ontos-none cs)
 
-onto-before : (c : ℕ) (p : Piece) (ps : Option (List Piece)) → onto c (before p ps) ≡ before (with_byte c p) ps
+pub onto-before : (c : ℕ) (p : Piece) (ps : Option (List Piece)) → onto c (before p ps) ≡ before (with_byte c p) ps
 onto-before c p None = refl
 onto-before c p (Some ps) = refl
 

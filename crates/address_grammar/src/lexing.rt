@@ -4,9 +4,9 @@ ghost use Rattle.address_grammar.specs.declared.pieces.Piece.TheVariants.{Run, Q
 ghost use Rattle.address_grammar.specs.Pieces.{before, depth_behind, in_comment, in_literal, in_quotes, in_run, onto, pieces as pieces_of, special_of};
 ghost use Rattle.address_grammar.specs.Found.{Finds, IsPiece};
 
-use crate::bytes::is_plain;
+use crate::bytes::{RunByte, is_plain};
 use crate::pieces::{Piece, Special};
-use mail_text::is_blank;
+use mail_text::{front_len, is_blank};
 use octets::Octets;
 use std::alloc::{AllocError, Global};
 
@@ -90,11 +90,7 @@ fn run_len(rest: &[u8]) -> usize
     ensures within { result ≤ length rest.now }
     ensures is { in_run rest.now ≡ before (Run (take result rest.now)) (pieces_of (drop result rest.now)) }
 {
-    let mut at = 0;
-    while at < rest.len() && is_plain(rest[at]) {
-        at += 1;
-    }
-    at
+    front_len::<RunByte>(rest)
 }
 
 /// The text of a quoted string whose first quote was read, and how many bytes it takes with its other quote.

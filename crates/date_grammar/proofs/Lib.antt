@@ -1,4 +1,3 @@
-pub mod FrontLemmas
 pub mod WordLemmas
 pub mod DigitLemmas
 pub mod DayLemmas

@@ -20,6 +20,3 @@ pub use laws::{law_comments, law_dates, law_one_print, law_values};
 pub use mime_tree::SentDate;
 pub use parts::Stamp;
 pub use stamps::{read_day, read_internal};
-
-#[cfg(test)]
-mod tests;

@@ -4,7 +4,7 @@ ghost use Rattle.mail_text.specs.Texts.{behind, front};
 ghost use Rattle.date_grammar.specs.Words.{words};
 ghost use Rattle.date_grammar.specs.Scanning.{HasNoWord, BeginsPlain, is_plain as is_plain_of, outer_of, words_after, words_at};
 
-use mail_text::is_blank;
+use mail_text::{ByteClass, front_len, is_blank};
 
 /// The first word of a value, and what stands behind it. None where there is none, or where a comment before it doesn't end.
 pub(crate) fn next_word(text: &[u8]) -> Option<(&[u8], &[u8])>
@@ -14,7 +14,7 @@ pub(crate) fn next_word(text: &[u8]) -> Option<(&[u8], &[u8])>
     if text.is_empty() {
         return None;
     }
-    let end = word_len(text);
+    let end = front_len::<WordByte>(text);
     Some((&text[..end], &text[end..]))
 }
 
@@ -89,15 +89,13 @@ fn is_plain(b: u8) -> bool
     !(is_blank(b) || b == b'(')
 }
 
-/// How long the word at the front of a text is.
-fn word_len(text: &[u8]) -> usize
-    ensures word { front is_plain_of text.now ≡ take result text.now }
-    ensures after { behind is_plain_of text.now ≡ drop result text.now }
-    ensures within { result ≤ length text.now }
-{
-    let mut end = 0;
-    while end < text.len() && is_plain(text[end]) {
-        end += 1;
+/// The bytes of words.
+struct WordByte;
+
+impl ByteClass for WordByte {
+    ghost test = { is_plain_of };
+
+    fn contains(b: u8) -> bool {
+        is_plain(b)
     }
-    end
 }

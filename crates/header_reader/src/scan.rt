@@ -6,7 +6,8 @@ ghost use Rattle.header_reader.specs.Fields.{header, is_field_line as is_field_l
 ghost use Rattle.header_reader.specs.Faults.{are_fields, have_cr, header_size, longest_header};
 ghost use Rattle.header_reader.specs.Places.{IsBodyPlace};
 
-use crate::line::{has_return, is_continuation, is_field_line, next_line};
+use crate::line::{is_continuation, is_field_line, next_line};
+use mail_text::has_byte;
 
 /// What a pass over a header found.
 #[derive(Clone, Copy)]
@@ -38,7 +39,7 @@ impl Scan {
         ensures place { result.place ≡ self.place }
     {
         Scan {
-            lone_cr: self.lone_cr || has_return(line),
+            lone_cr: self.lone_cr || has_byte(line, b'\r'),
             are_fields: self.are_fields && fits(line, first),
             size: self.size.saturating_add(line.len()).saturating_add(2),
             place: self.place,

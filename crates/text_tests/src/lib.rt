@@ -2,6 +2,14 @@
 #![tactic(auto)]
 
 #[cfg(test)]
+mod address_grammar_tests;
+#[cfg(test)]
+mod date_grammar_tests;
+#[cfg(test)]
+mod header_reader_tests;
+#[cfg(test)]
 mod mail_text_tests;
 #[cfg(test)]
 mod transfer_codec_tests;
+#[cfg(test)]
+mod word_codec_tests;

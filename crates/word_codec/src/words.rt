@@ -5,7 +5,7 @@ ghost use Rattle.mail_text.specs.Texts.{behind, front};
 ghost use Rattle.word_codec.specs.Found.{IsFirst, NoneBefore, parts};
 ghost use Rattle.word_codec.specs.Words.{encoding_of, ended_word as ended_word_of, is_inner as is_inner_of, word_at as word_at_of, word_behind as word_behind_of, word_len};
 
-use mail_text::is_blank;
+use mail_text::{ByteClass, front_len, is_blank};
 
 /// How the content of an encoded word is written.
 #[derive(Clone, Copy, Debug, PartialEq, Eq)]
@@ -40,17 +40,15 @@ fn is_inner(b: u8) -> bool
     !is_blank(b) && b != b'?'
 }
 
-/// How many bytes at the front of a text may be a charset or a content.
-fn inner_len(text: &[u8]) -> usize
-    ensures inner { front is_inner_of text.now ≡ take result text.now }
-    ensures after { behind is_inner_of text.now ≡ drop result text.now }
-    ensures within { result ≤ length text.now }
-{
-    let mut end = 0;
-    while end < text.len() && is_inner(text[end]) {
-        end += 1;
+/// The bytes that a charset or a content may have.
+struct InnerByte;
+
+impl ByteClass for InnerByte {
+    ghost test = { is_inner_of };
+
+    fn contains(b: u8) -> bool {
+        is_inner(b)
     }
-    end
 }
 
 fn letter_encoding(letter: u8) -> Option<Encoding>
@@ -71,7 +69,7 @@ fn word_at(text: &[u8]) -> Option<EncodedWord<'_>>
 {
     if text.len() >= 2 && text[0] == b'=' && text[1] == b'?' {
         let inner = &text[2..];
-        let (charset, rest) = inner.split_at(inner_len(inner));
+        let (charset, rest) = inner.split_at(front_len::<InnerByte>(inner));
         word_behind(charset, rest)
     } else {
         None
@@ -84,7 +82,7 @@ fn word_behind<'a>(charset: &'a [u8], rest: &'a [u8]) -> Option<EncodedWord<'a>>
     if rest.len() >= 3 && rest[0] == b'?' && rest[2] == b'?' {
         let letter = rest[1];
         let inner = &rest[3..];
-        let (content, rest) = inner.split_at(inner_len(inner));
+        let (content, rest) = inner.split_at(front_len::<InnerByte>(inner));
         ended_word(charset, letter_encoding(letter), content, rest)
     } else {
         None

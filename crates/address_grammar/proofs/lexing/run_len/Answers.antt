@@ -1,12 +1,12 @@
-use Rattle.std.proofs.Common.{sym, ◌∙◌}
-use Rattle.address_grammar.proofs.LexLemmas.{run_next, run_stops, run_all}
+use Rattle.std.proofs.Common.{◌∙◌, ap, take}
+use Rattle.address_grammar.specs.declared.pieces.Piece.TheVariants.{Run}
+use Rattle.mail_text.specs.Texts.{behind}
+use Rattle.address_grammar.specs.Pieces.{is_plain, before, pieces}
+use Rattle.address_grammar.proofs.LexLemmas.{run_front}
 use Rattle.address_grammar.proofs.lexing.run_len.Goals as goal
 
-pub loop-at-preserved : goal.loop-at-preserved
-loop-at-preserved c = run_next _ _ c.loop-at.invariant c.loop-at-test.true (sym c.is_plain.ensures ∙ c.if-is_plain.true)
-
-pub returns-else-is_plain-clause-is : goal.returns-else-is_plain-clause-is
-returns-else-is_plain-clause-is c = run_stops _ _ c.loop-at.invariant c.loop-at-test.true (sym c.is_plain.ensures ∙ c.if-is_plain.false)
-
-pub returns-after-loop-at-clause-is : goal.returns-after-loop-at-clause-is
-returns-after-loop-at-clause-is c = run_all _ _ c.loop-at.invariant c.loop-at-test.false
+pub returns-clause-is : goal.returns-clause-is
+returns-clause-is c =
+    let rest = c.args.rest.now in
+    run_front rest ∙ ap (λ text. before (Run text) (pieces (behind is_plain rest))) c.front_len.ensures.taken
+    ∙ ap (λ left. before (Run (take c.front_len.result rest)) (pieces left)) c.front_len.ensures.left

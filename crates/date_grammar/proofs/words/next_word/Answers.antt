@@ -11,5 +11,5 @@ returns c =
     let text : List ℕ = c.in_ok-text.text.now in
     let some : 0 < length text = grind (arith, nat_tests) in
     c.in_ok-text.ensures.0 ∙ first_word text some c.in_ok-text.ensures.1
-    ∙ ap (λ w. words_after w (behind is_plain text)) c.word_len-end.ensures.word
-    ∙ ap (words_after (take c.word_len-end.result text)) (c.word_len-end.ensures.after ∙ sym (take_rest text c.word_len-end.result))
+    ∙ ap (λ w. words_after w (behind is_plain text)) c.front_len-end.ensures.taken
+    ∙ ap (words_after (take c.front_len-end.result text)) (c.front_len-end.ensures.left ∙ sym (take_rest text c.front_len-end.result))

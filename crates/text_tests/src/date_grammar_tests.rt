@@ -1,5 +1,7 @@
 //! Dates of the standards' examples and at the edges of their rules.
-use crate::{Stamp, civil_day, print_internal, print_now, read_date, read_day, read_internal};
+use date_grammar::{
+    Stamp, civil_day, print_internal, print_now, read_date, read_day, read_internal,
+};
 
 #[test]
 fn dates_are_read(rt: HostRuntime) {
