@@ -40,9 +40,9 @@ fault_of ls =
     else (if not (are_fields ls) then Some NoField
     else (if nat_lt longest_header (header_size ls) then Some LongHeader else None))
 
--- The answer that tells of it. Want of memory tells of nothing.
+-- The answer that tells of it. Memory is wanted only for a header that can be read.
 abbrev pub IsFault : HeaderFault → Option Reason → Type 0
 IsFault LoneCr reason = reason ≡ Some LoneReturn
 IsFault BadLine reason = reason ≡ Some NoField
 IsFault LongHeaderFault reason = reason ≡ Some LongHeader
-IsFault NoMemory reason = Unit {0}
+IsFault NoMemory reason = reason ≡ None
