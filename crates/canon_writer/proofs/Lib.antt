@@ -10,6 +10,9 @@ pub mod HeadLemmas
 pub mod PrintLemmas
 pub mod PartLemmas
 pub mod SizeLemmas
+pub mod CountLemmas
+pub mod PieceLemmas
+pub mod PrintSizeLemmas
 pub mod WrapperLemmas
 pub mod ArrivalLemmas
 pub mod LawLemmas

@@ -15,7 +15,7 @@ size-append : (ls ms : List (List ℕ)) → header_size (ls ++ ms) ≡ header_si
 size-append [] ms = omega arith
 size-append (l ∷ ls) ms = omega (arith, size-append ls ms)
 
-size-ahead : (w : List ℕ) (ls : List (List ℕ)) → (ls ≡ [] → ⊥) → header_size (ahead w ls) ≡ length w + header_size ls
+pub size-ahead : (w : List ℕ) (ls : List (List ℕ)) → (ls ≡ [] → ⊥) → header_size (ahead w ls) ≡ length w + header_size ls
 size-ahead w [] some = absurd (some refl)
 size-ahead w (l ∷ ls) some = omega (arith, length-append w l)
 

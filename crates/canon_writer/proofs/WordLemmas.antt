@@ -72,7 +72,7 @@ pub ahead_none : (ls : List (List ℕ)) → (ls ≡ [] → ⊥) → ls ≡ ahead
 ahead_none [] h = absurd (h refl)
 ahead_none (l ∷ ls) h = refl
 
-ahead-put : (w : List ℕ) (c : ℕ) (ls : List (List ℕ)) → (ls ≡ [] → ⊥) → ahead w (put c ls) ≡ ahead (w ++ c ∷ []) ls
+pub ahead-put : (w : List ℕ) (c : ℕ) (ls : List (List ℕ)) → (ls ≡ [] → ⊥) → ahead w (put c ls) ≡ ahead (w ++ c ∷ []) ls
 ahead-put w c [] h = absurd (h refl)
 ahead-put w c (l ∷ ls) h = rw (append_assoc w (c ∷ []) l) refl
 
@@ -108,7 +108,7 @@ word_here text at h first second so_far =
     ∙ ap (ahead (take at text)) (cond-true (not (is_blank c) && begins is_blank left) ((c ∷ []) ∷ words left) (put c (words left)) both)
     ∙ ap (λ w. w ∷ words left) (sym (take_more text at 0 within))
 
-last_word : (w x : List ℕ) → length x ≤ 1 → 0 < length x → ahead w (words x) ≡ (w ++ x) ∷ words []
+pub last_word : (w x : List ℕ) → length x ≤ 1 → 0 < length x → ahead w (words x) ≡ (w ++ x) ∷ words []
 last_word w [] h some = absurd (omega arith)
 last_word w (c ∷ []) h some = ap (ahead w) (cond-false (not (is_blank c) && false) ((c ∷ []) ∷ []) (put c []) (and_right (not (is_blank c)) false refl))
 last_word w (c ∷ d ∷ ds) h some = absurd (omega arith)

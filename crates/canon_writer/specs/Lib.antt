@@ -1,3 +1,4 @@
 pub mod Folding
 pub mod Printing
 pub mod Laws
+pub mod Counting

@@ -7,7 +7,7 @@ use mail_text::is_blank;
 use std::alloc::AllocError;
 
 /// How long a line may be before it is folded, in bytes (RFC 5322 §2.1.1).
-const LINE_WIDTH: usize = 78;
+pub(crate) const LINE_WIDTH: usize = 78;
 
 /// The first word of a text, with the blanks before it, and what stands behind it.
 fn split_word(text: &[u8]) -> (&[u8], &[u8])

@@ -1,10 +1,14 @@
 //! The canonical text of a message: the one text that stands for its tree. Reading it gives the tree again.
 #![tactic(auto)]
 
+mod counting;
 mod folding;
 mod printing;
+mod sizes;
+mod value_sizes;
 
 pub use printing::{law_print, write_body, write_header, write_message};
+pub use sizes::{field_size, printed_body_size, printed_header_size, printed_size};
 
 #[cfg(test)]
 mod tests {

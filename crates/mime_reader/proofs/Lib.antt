@@ -1,6 +1,7 @@
 mod Examples
 pub mod SearchLemmas
 pub mod TypeLemmas
+pub mod ValueSizeLemmas
 pub mod LineLemmas
 pub mod CutLemmas
 pub mod KindLemmas

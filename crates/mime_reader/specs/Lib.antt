@@ -6,6 +6,7 @@ pub mod Arrival
 pub mod Wrapping
 pub mod Weights
 pub mod Found
+pub mod ValueSizes
 pub mod Cutting
 pub mod Steps
 pub mod Laws

@@ -69,7 +69,7 @@ fn with_subtype(
 }
 
 /// What stands behind so many bytes.
-fn behind(text: &[u8], size: usize) -> &[u8]
+pub(crate) fn behind(text: &[u8], size: usize) -> &[u8]
     requires { size ≤ length text.now }
     ensures { result.now ≡ drop size text.now }
 {

@@ -8,6 +8,7 @@ mod kinds;
 mod reading;
 mod sizes;
 mod tokens;
+mod value_sizes;
 mod wrapping;
 
 pub use content_types::{ContentType, Parameter, content_type, parameter_value};
@@ -15,6 +16,7 @@ pub use faults::ReadFault;
 pub use kinds::{BodyKind, body_kind, first_text, type_of};
 pub use reading::{law_reading, read_message};
 pub use sizes::law_sizes;
+pub use value_sizes::boundary_size;
 pub use wrapping::{law_wrapping, read_or_wrap, wrap};
 
 #[cfg(test)]
