@@ -13,7 +13,10 @@ const OWNER_ALONE: u32 = 0o600;
 #[derive(Drop)]
 pub(crate) enum Unusable {
     /// A file, or the folder where the name is empty, can't be opened, made or synced.
-    Unopened { name: &'static str, error: io::Error },
+    Unopened {
+        name: &'static str,
+        error: io::Error,
+    },
     /// Another process has the store open.
     InUse,
 }
@@ -112,7 +115,12 @@ mod tests {
         assert!(rt; matches!(open_files(&rt, "locked_store"), Err(Unusable::InUse)));
         drop(first);
         assert!(rt; open_files(&rt, "locked_store").is_ok());
-        assert!(rt; matches!(open_files(&rt, "no_folder"), Err(Unusable::Unopened { name: "log0", .. })));
+        assert!(rt;
+            matches!(
+                open_files(&rt, "no_folder"),
+                Err(Unusable::Unopened { name: "log0", .. })
+            )
+        );
         remove_dir_all(&rt, "locked_store")?;
         Ok(())
     }
