@@ -84,7 +84,8 @@ impl Tables {
     fn has_mailbox_message(&self, mailbox: u32, uid: u32) -> bool
         ensures { IsTrue result ↔ HasMailboxMessage self.now mailbox uid }
     {
-        self.mailbox_messages.get(of_uid(mailbox, uid)).is_some()
+        let marks = &self.marks;
+        marks.mailbox_messages.get(of_uid(mailbox, uid)).is_some()
     }
 
     fn refers(&self, row: &MailboxMessage) -> bool

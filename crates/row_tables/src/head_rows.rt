@@ -16,55 +16,63 @@ impl Tables {
     pub fn users_row(&self, key: u32) -> Option<&User>
         ensures { option_copied result ≡ row_at user_key (number_key key) self.now.heads.users }
     {
-        self.users.get(Key::of_number(key as u64))
+        let heads = &self.heads;
+        heads.users.get(Key::of_number(key as u64))
     }
 
     pub fn users_rows(&self) -> Rows<'_, User>
         ensures rows { result ≡ self.now.heads.users }
         ensures order { IsInOrder user_key self.now.heads.users }
     {
-        self.users.rows()
+        let heads = &self.heads;
+        heads.users.rows()
     }
 
     pub fn users_rows_from(&self, key: u32) -> Rows<'_, User>
         ensures rows { result ≡ rows_from user_key (number_key key) self.now.heads.users }
         ensures order { IsInOrder user_key self.now.heads.users }
     {
-        self.users.rows_from(Key::of_number(key as u64))
+        let heads = &self.heads;
+        heads.users.rows_from(Key::of_number(key as u64))
     }
 
     pub fn mailboxes_row(&self, key: u32) -> Option<&Mailbox>
         ensures { option_copied result ≡ row_at mailbox_key (number_key key) self.now.heads.mailboxes }
     {
-        self.mailboxes.get(Key::of_number(key as u64))
+        let heads = &self.heads;
+        heads.mailboxes.get(Key::of_number(key as u64))
     }
 
     pub fn mailboxes_rows(&self) -> Rows<'_, Mailbox>
         ensures rows { result ≡ self.now.heads.mailboxes }
         ensures order { IsInOrder mailbox_key self.now.heads.mailboxes }
     {
-        self.mailboxes.rows()
+        let heads = &self.heads;
+        heads.mailboxes.rows()
     }
 
     pub fn mailboxes_rows_from(&self, key: u32) -> Rows<'_, Mailbox>
         ensures rows { result ≡ rows_from mailbox_key (number_key key) self.now.heads.mailboxes }
         ensures order { IsInOrder mailbox_key self.now.heads.mailboxes }
     {
-        self.mailboxes.rows_from(Key::of_number(key as u64))
+        let heads = &self.heads;
+        heads.mailboxes.rows_from(Key::of_number(key as u64))
     }
 
     /// The key is the owner and the name.
     pub fn subscriptions_row(&self, key: (u32, &[u8])) -> Option<&Subscription>
         ensures { option_copied result ≡ row_at subscription_key (owned_key key.entry.0 key.entry.1.now) self.now.heads.subscriptions }
     {
-        self.subscriptions.get(owned(key.0, key.1))
+        let heads = &self.heads;
+        heads.subscriptions.get(owned(key.0, key.1))
     }
 
     pub fn subscriptions_rows(&self) -> Rows<'_, Subscription>
         ensures rows { result ≡ self.now.heads.subscriptions }
         ensures order { IsInOrder subscription_key self.now.heads.subscriptions }
     {
-        self.subscriptions.rows()
+        let heads = &self.heads;
+        heads.subscriptions.rows()
     }
 
     /// The key is the owner and the name.
@@ -72,27 +80,31 @@ impl Tables {
         ensures rows { result ≡ rows_from subscription_key (owned_key key.entry.0 key.entry.1.now) self.now.heads.subscriptions }
         ensures order { IsInOrder subscription_key self.now.heads.subscriptions }
     {
-        self.subscriptions.rows_from(owned(key.0, key.1))
+        let heads = &self.heads;
+        heads.subscriptions.rows_from(owned(key.0, key.1))
     }
 
     /// The names to which a user is subscribed, by their bytes.
     pub fn subscriptions_of(&self, owner: u32) -> Numbered<'_, Subscription>
         ensures { result ≡ subscriptions_of owner self.now.heads.subscriptions }
     {
-        self.subscriptions.numbered(owner as u64)
+        let heads = &self.heads;
+        heads.subscriptions.numbered(owner as u64)
     }
 
     /// There is always one row.
     pub fn counters_row(&self, _key: ()) -> Option<&Counters>
         ensures { option_copied result ≡ Some self.now.heads.counters }
     {
-        Some(&self.counters)
+        let heads = &self.heads;
+        Some(&heads.counters)
     }
 
     pub fn counters_rows(&self) -> Rows<'_, Counters>
         ensures { result ≡ self.now.heads.counters ∷ [] }
     {
-        Rows::of_slice(slice::from_ref(&self.counters))
+        let heads = &self.heads;
+        Rows::of_slice(slice::from_ref(&heads.counters))
     }
 
     pub fn counters_rows_from(&self, _key: ()) -> Rows<'_, Counters>

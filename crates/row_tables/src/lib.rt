@@ -7,19 +7,23 @@ mod change;
 mod contents;
 mod fitting;
 mod head_rows;
+mod head_tables;
 mod heads;
 mod indexes;
 mod keys;
 pub mod laws;
 mod mail_rows;
+mod mail_tables;
 mod mails;
 mod mark_rows;
+mod mark_tables;
 #[cfg(test)]
 mod mark_tests;
 mod marks;
 mod row_count;
 mod shared;
 mod shared_rows;
+mod shared_tables;
 mod tables;
 #[cfg(test)]
 mod tests;

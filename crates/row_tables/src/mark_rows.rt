@@ -28,8 +28,9 @@ impl Tables {
         ensures row { option_copied result ≡ row_at mailbox_message_key (uid_key mailbox uid) self.now.marks.mailbox_messages }
         ensures count { count.new ≡ min (count.old + 1) (2 ^ 64 - 1) }
     {
+        let marks = &self.marks;
         count.raise();
-        self.mailbox_messages.get(of_uid(mailbox, uid))
+        marks.mailbox_messages.get(of_uid(mailbox, uid))
     }
 
     /// The UIDs of a mailbox's messages, ascending. Costs a step for each one that is taken.
@@ -37,22 +38,25 @@ impl Tables {
         ensures uids { result ≡ uids_of mailbox self.now.marks.mailbox_messages }
         ensures ascending { IsStrictlySortedBy nat_cmp result }
     {
-        let _ = self.mailbox_messages.rows();
-        Uids::of(self.mailbox_messages.numbered(mailbox as u64))
+        let marks = &self.marks;
+        let _ = marks.mailbox_messages.rows();
+        Uids::of(marks.mailbox_messages.numbered(mailbox as u64))
     }
 
     /// The key is the mailbox and the UID.
     pub fn deleted_messages_row(&self, key: (u32, u32)) -> Option<&DeletedMessage>
         ensures { option_copied result ≡ row_at deleted_message_key (uid_key key.0 key.1) self.now.marks.deleted_messages }
     {
-        self.deleted_messages.get(of_uid(key.0, key.1))
+        let marks = &self.marks;
+        marks.deleted_messages.get(of_uid(key.0, key.1))
     }
 
     pub fn deleted_messages_rows(&self) -> Rows<'_, DeletedMessage>
         ensures rows { result ≡ self.now.marks.deleted_messages }
         ensures order { IsInOrder deleted_message_key self.now.marks.deleted_messages }
     {
-        self.deleted_messages.rows()
+        let marks = &self.marks;
+        marks.deleted_messages.rows()
     }
 
     /// The key is the mailbox and the UID.
@@ -60,62 +64,71 @@ impl Tables {
         ensures rows { result ≡ rows_from deleted_message_key (uid_key key.0 key.1) self.now.marks.deleted_messages }
         ensures order { IsInOrder deleted_message_key self.now.marks.deleted_messages }
     {
-        self.deleted_messages.rows_from(of_uid(key.0, key.1))
+        let marks = &self.marks;
+        marks.deleted_messages.rows_from(of_uid(key.0, key.1))
     }
 
     /// The UIDs that are gone from a mailbox, ascending.
     pub fn deleted_messages_of(&self, mailbox: u32) -> Numbered<'_, DeletedMessage>
         ensures { result ≡ deleted_of mailbox self.now.marks.deleted_messages }
     {
-        self.deleted_messages.numbered(mailbox as u64)
+        let marks = &self.marks;
+        marks.deleted_messages.numbered(mailbox as u64)
     }
 
     pub fn flag_names_row(&self, key: u64) -> Option<&FlagName>
         ensures { option_copied result ≡ row_at flag_name_key (number_key key) self.now.marks.flag_names }
     {
-        self.flag_names.get(Key::of_number(key))
+        let marks = &self.marks;
+        marks.flag_names.get(Key::of_number(key))
     }
 
     pub fn flag_names_rows(&self) -> Rows<'_, FlagName>
         ensures rows { result ≡ self.now.marks.flag_names }
         ensures order { IsInOrder flag_name_key self.now.marks.flag_names }
     {
-        self.flag_names.rows()
+        let marks = &self.marks;
+        marks.flag_names.rows()
     }
 
     pub fn flag_names_rows_from(&self, key: u64) -> Rows<'_, FlagName>
         ensures rows { result ≡ rows_from flag_name_key (number_key key) self.now.marks.flag_names }
         ensures order { IsInOrder flag_name_key self.now.marks.flag_names }
     {
-        self.flag_names.rows_from(Key::of_number(key))
+        let marks = &self.marks;
+        marks.flag_names.rows_from(Key::of_number(key))
     }
 
     /// The id of the flag name that is this text.
     pub fn flag_name_id(&self, name: &[u8]) -> Option<u64>
         ensures { result ≡ flag_name_id name.now self.now.marks.flag_names }
     {
-        id_of_content(&self.words, name, &[], &[])
+        let marks = &self.marks;
+        id_of_content(&marks.words, name, &[], &[])
     }
 
     /// The id for a new flag name.
     pub fn new_flag_name_id(&self) -> u64
         ensures { IsNewNumber flag_name_key self.now.marks.flag_names result }
     {
-        self.flag_names.new_number()
+        let marks = &self.marks;
+        marks.flag_names.new_number()
     }
 
     /// The key is the mailbox, the UID and the flag.
     pub fn flags_row(&self, key: (u32, u32, u64)) -> Option<&FlagRow>
         ensures { option_copied result ≡ row_at flag_key (uid_flag_key key.0 key.1 key.2) self.now.marks.flags }
     {
-        self.flags.get(of_flag(key.0, key.1, key.2))
+        let marks = &self.marks;
+        marks.flags.get(of_flag(key.0, key.1, key.2))
     }
 
     pub fn flags_rows(&self) -> Rows<'_, FlagRow>
         ensures rows { result ≡ self.now.marks.flags }
         ensures order { IsInOrder flag_key self.now.marks.flags }
     {
-        self.flags.rows()
+        let marks = &self.marks;
+        marks.flags.rows()
     }
 
     /// The key is the mailbox, the UID and the flag.
@@ -123,20 +136,23 @@ impl Tables {
         ensures rows { result ≡ rows_from flag_key (uid_flag_key key.0 key.1 key.2) self.now.marks.flags }
         ensures order { IsInOrder flag_key self.now.marks.flags }
     {
-        self.flags.rows_from(of_flag(key.0, key.1, key.2))
+        let marks = &self.marks;
+        marks.flags.rows_from(of_flag(key.0, key.1, key.2))
     }
 
     /// The flags of the messages of a mailbox, by UID and flag.
     pub fn flags_of(&self, mailbox: u32) -> Numbered<'_, FlagRow>
         ensures { result ≡ flags_of mailbox self.now.marks.flags }
     {
-        self.flags.numbered(mailbox as u64)
+        let marks = &self.marks;
+        marks.flags.numbered(mailbox as u64)
     }
 
     /// The flags of one message of a mailbox, by their ids.
     pub fn flags_at(&self, mailbox: u32, uid: u32) -> Group<'_, FlagRow>
         ensures { result ≡ flags_at mailbox uid self.now.marks.flags }
     {
-        self.flags.group(of_uid(mailbox, uid))
+        let marks = &self.marks;
+        marks.flags.group(of_uid(mailbox, uid))
     }
 }

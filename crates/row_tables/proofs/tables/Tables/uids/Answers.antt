@@ -8,4 +8,4 @@ use Rattle.row_tables.proofs.tables.Tables.uids.Goals as goal
 pub returns-clause-ascending : goal.returns-clause-ascending
 returns-clause-ascending c =
     subst (IsStrictlySortedBy nat_cmp) (sym (c.of.ensures ∙ ap (λ (rows : List MailboxMessage). map (λ (r : MailboxMessage). r.uid) rows) c.numbered.ensures))
-    (uids_ascend c.args.mailbox c.self.inside.mailbox_messages c.rows.ensures.order)
+    (uids_ascend c.args.mailbox c.marks.inside.mailbox_messages c.rows.ensures.order)
