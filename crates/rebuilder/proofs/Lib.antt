@@ -1,6 +1,5 @@
 pub mod OneValue
 pub mod OneMail
 pub mod Walks
-pub mod Depths
 pub mod Bodies
 pub mod Children

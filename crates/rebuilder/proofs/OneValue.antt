@@ -102,7 +102,3 @@ module _ (t : TableRows) (message : ℕ) (path : List ℕ) where
 
   pub same_fields : (fs gs : List Field) → HasFields t message path fs → HasFields t message path gs → fs ≡ gs
   same_fields fs gs h k = same_rows 0 fs gs _ h.rows k.rows
-
-  -- fields that have the rows of fields that are there
-  pub fields_there : (fs gs : List Field) → HasFields t message path fs → AreFieldRows t message path 0 gs (fields_at message path t.mails.header_fields) → HasFields t message path gs
-  fields_there fs gs h k = subst (HasFields t message path) (same_rows 0 fs gs _ h.rows k) h

@@ -11,52 +11,57 @@ use Rattle.row_tables.specs.declared.contents.AddressRow.{AddressRow}
 use Rattle.shredder.specs.MessageRows.{IsItemRow, AreItemRows, IsFieldRow, AreFieldRows, id_rows}
 
 -- The row of one value, and the others.
-pub record First {X R : Type 0} (Is : ℕ → X → R → Type 0) (Are : ℕ → List X → List R → Type 0) (n : ℕ) (r : R) (left : List R) : Type 0 where
+pub record First {X R : Type 0} (Is : ℕ → X → R → Type 0) (Are : ℕ → List X → List R → Type 0) (n : ℕ) (xs : List X) (r : R) (left : List R) : Type 0 where
   pub value : X
   pub others : List X
+  pub is : xs ≡ value ∷ others
   pub row : Is n value r
   pub rows : Are (n + 1) others left
 
 -- A row for each value, in their order; their places are counted from n.
 pub record IsRowByRow {X R : Type 0} (Is : ℕ → X → R → Type 0) (Are : ℕ → List X → List R → Type 0) : Type 0 where
-  pub none : (n : ℕ) → Are n [] []
-  pub first : (n : ℕ) (xs : List X) (r : R) (left : List R) → Are n xs (r ∷ left) → First Is Are n r left
-  pub joined : (n : ℕ) (x : X) (xs : List X) (r : R) (left : List R) → Is n x r → Are (n + 1) xs left → Are n (x ∷ xs) (r ∷ left)
+  pub none : (n : ℕ) (xs : List X) → Are n xs [] → xs ≡ []
+  pub first : (n : ℕ) (xs : List X) (r : R) (left : List R) → Are n xs (r ∷ left) → First Is Are n xs r left
 
--- Of a walk over rows: they are `all`, and those to come are `left`.
-pub record IsHalfway {X R : Type 0} (Are : ℕ → List X → List R → Type 0) (all : List R) (done : List X) (left : List R) : Type 0 where
+-- Of a walk over the rows of values: the first of these were read, and the rows to come are those of the rest.
+pub record IsHalfway {X R : Type 0} (Are : ℕ → List X → List R → Type 0) (xs done : List X) (left : List R) : Type 0 where
   pub rest : List X
+  pub whole : xs ≡ done ++ rest
   pub to_come : Are (length done) rest left
-  pub so_far : (more : List X) → Are (length done) more left → Are 0 (done ++ more) all
 
-module _ {X R : Type 0} (Is : ℕ → X → R → Type 0) (Are : ℕ → List X → List R → Type 0) (law : IsRowByRow Is Are) (all : List R) where
-  pub next_one : (done : List X) (left : List R) (r : R) (after : List R) → IsHalfway Are all done left → left ≡ r ∷ after → First Is Are (length done) r after
-  next_one done left r after h e = law.first (length done) h.rest r after (subst (Are (length done) h.rest) e h.to_come)
+module _ {X R : Type 0} (Is : ℕ → X → R → Type 0) (Are : ℕ → List X → List R → Type 0) (law : IsRowByRow Is Are) (xs : List X) where
+  pub begun : (rows : List R) → Are 0 xs rows → IsHalfway Are xs [] rows
+  begun rows h = record { rest = xs; whole = refl; to_come = h }
 
   -- one value more was read
-  pub gone_on : (done : List X) (left : List R) (r : R) (after : List R) (read : X) → IsHalfway Are all done left → left ≡ r ∷ after → Is (length done) read r → IsHalfway Are all (done ++ read ∷ []) after
-  gone_on done left r after read h e k =
-      let first = next_one done left r after h e in
+  pub gone_on : (done : List X) (left : List R) (r : R) (after : List R) (read : X) → ((x : X) → Is (length done) x r → read ≡ x)
+      → left ≡ r ∷ after → IsHalfway Are xs done left → IsHalfway Are xs (done ++ read ∷ []) after
+  gone_on done left r after read same e h =
+      let first = law.first (length done) h.rest r after (subst (Are (length done) h.rest) e h.to_come) in
+      let rest : h.rest ≡ read ∷ first.others = first.is ∙ ap (λ (x : X). x ∷ first.others) (sym (same first.value first.row)) in
       record {
         rest = first.others;
+        whole = h.whole ∙ ap (λ (l : List X). done ++ l) rest ∙ sym (append_assoc done (read ∷ []) first.others);
         to_come = subst (λ n. Are n first.others after) (sym (length_push done read)) first.rows;
-        so_far = λ more m.
-            subst (λ l. Are 0 l all) (sym (append_assoc done (read ∷ []) more))
-            (h.so_far (read ∷ more) (subst (Are (length done) (read ∷ more)) (sym e) (law.joined (length done) read more r after k (subst (λ n. Are n more after) (length_push done read) m))));
       }
 
-  pub ended : (done : List X) (left : List R) → IsHalfway Are all done left → left ≡ [] → Are 0 done all
-  ended done left h e =
-      subst (λ l. Are 0 l all) (append-nil done) (h.so_far [] (subst (Are (length done) []) (sym e) (law.none (length done))))
+  pub ended : (done : List X) (left : List R) → left ≡ [] → IsHalfway Are xs done left → done ≡ xs
+  ended done left e h =
+      let none : h.rest ≡ [] = law.none (length done) h.rest (subst (Are (length done) h.rest) e h.to_come) in
+      sym (h.whole ∙ ap (λ (l : List X). done ++ l) none ∙ append-nil done)
 
 -- ---- items, ids and fields
 
 pub item_by_item : (addresses : List AddressRow) → IsRowByRow (IsItemRow addresses) (AreItemRows addresses)
-item_by_item addresses = record { none = λ n. tt; first = first; joined = λ n x xs r left h k. (h, k) }
+item_by_item addresses = record { none = none; first = first }
   where
-    first : (n : ℕ) (items : List Item) (r : AddressField) (left : List AddressField) → AreItemRows addresses n items (r ∷ left) → First (IsItemRow addresses) (AreItemRows addresses) n r left
+    none : (n : ℕ) (items : List Item) → AreItemRows addresses n items [] → items ≡ []
+    none n [] h = refl
+    none n (i ∷ items) h = absurd h
+
+    first : (n : ℕ) (items : List Item) (r : AddressField) (left : List AddressField) → AreItemRows addresses n items (r ∷ left) → First (IsItemRow addresses) (AreItemRows addresses) n items r left
     first n [] r left h = absurd h
-    first n (i ∷ items) r left h = record { value = i; others = items; row = h.0; rows = h.1 }
+    first n (i ∷ items) r left h = record { value = i; others = items; is = refl; row = h.0; rows = h.1 }
 
 module _ (message : ℕ) (path : List ℕ) (place : ℕ) where
   abbrev pub IsIdRow : ℕ → List ℕ → MessageId → Type 0
@@ -66,22 +71,28 @@ module _ (message : ℕ) (path : List ℕ) (place : ℕ) where
   AreIdRows n ids rows = rows ≡ id_rows message path place n ids
 
   pub id_by_id : IsRowByRow IsIdRow AreIdRows
-  id_by_id = record { none = λ n. refl; first = first; joined = λ n x xs r left h k. ap (λ (f : MessageId). f ∷ left) h ∙ ap (λ (l : List MessageId). record { message = message; path = path; place = place; item = n; value = x } ∷ l) k }
+  id_by_id = record { none = none; first = first }
     where
-      first : (n : ℕ) (ids : List (List ℕ)) (r : MessageId) (left : List MessageId) → AreIdRows n ids (r ∷ left) → First IsIdRow AreIdRows n r left
-      first n [] r left h = cc
-      first n (i ∷ ids) r left h = record { value = i; others = ids; row = cc; rows = cc }
+      none : (n : ℕ) (ids : List (List ℕ)) → AreIdRows n ids [] → ids ≡ []
+      none n [] h = refl
+      none n (i ∷ ids) h = cc
 
-  -- the value that was read at the row is its id
-  pub id_read : (n : ℕ) (id read : List ℕ) (r : MessageId) → IsIdRow n id r → read ≡ r.value → IsIdRow n read r
-  id_read n id read r h e =
-      let value : id ≡ read = sym (ap (λ (f : MessageId). f.value) h) ∙ sym e in
-      h ∙ ap (λ (v : List ℕ). record { message = message; path = path; place = place; item = n; value = v }) value
+      first : (n : ℕ) (ids : List (List ℕ)) (r : MessageId) (left : List MessageId) → AreIdRows n ids (r ∷ left) → First IsIdRow AreIdRows n ids r left
+      first n [] r left h = cc
+      first n (i ∷ ids) r left h = record { value = i; others = ids; is = refl; row = cc; rows = cc }
+
+  -- the value of the row is the id
+  pub id_read : (n : ℕ) (read : List ℕ) (r : MessageId) → read ≡ r.value → (id : List ℕ) → IsIdRow n id r → read ≡ id
+  id_read n read r e id h = e ∙ ap (λ (f : MessageId). f.value) h
 
 module _ (t : TableRows) (message : ℕ) (path : List ℕ) where
   pub field_by_field : IsRowByRow (IsFieldRow t message path) (AreFieldRows t message path)
-  field_by_field = record { none = λ n. tt; first = first; joined = λ n x xs r left h k. (h, k) }
+  field_by_field = record { none = none; first = first }
     where
-      first : (n : ℕ) (fields : List Field) (r : HeaderField) (left : List HeaderField) → AreFieldRows t message path n fields (r ∷ left) → First (IsFieldRow t message path) (AreFieldRows t message path) n r left
+      none : (n : ℕ) (fields : List Field) → AreFieldRows t message path n fields [] → fields ≡ []
+      none n [] h = refl
+      none n (f ∷ fields) h = absurd h
+
+      first : (n : ℕ) (fields : List Field) (r : HeaderField) (left : List HeaderField) → AreFieldRows t message path n fields (r ∷ left) → First (IsFieldRow t message path) (AreFieldRows t message path) n fields r left
       first n [] r left h = absurd h
-      first n (f ∷ fields) r left h = record { value = f; others = fields; row = h.0; rows = h.1 }
+      first n (f ∷ fields) r left h = record { value = f; others = fields; is = refl; row = h.0; rows = h.1 }

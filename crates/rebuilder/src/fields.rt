@@ -5,6 +5,7 @@ ghost use Rattle.shredder.specs.MessageRows.{HasFields, IsFieldRow};
 
 use crate::values::{copied, value_in};
 use mime_tree::Field;
+use octets::Octets;
 use row_tables::{HeaderField, Tables};
 use std::alloc::{AllocError, Global};
 
@@ -15,8 +16,7 @@ pub(crate) fn fields_in(
     message: u64,
     path: &[u8],
 ) -> Result<Vec<Field>, AllocError>
-    requires { (fields : List Field) × HasFields tables.now message path.now fields }
-    ensures { IfOk result (λ v. HasFields tables.now message path.now v.items) }
+    ensures { (fields : List Field) → HasFields tables.now message path.now fields → IfOk result (λ v. v.items ≡ fields) }
 {
     let mut fields = Vec::new(alloc);
     let mut rows = tables.header_fields_at(message, path);
@@ -34,13 +34,12 @@ fn field_in(
     path: &[u8],
     row: &HeaderField,
 ) -> Result<Field, AllocError>
-    requires { (field : Field) × IsFieldRow tables.now message path.now row.now.place field row.now }
-    ensures { IfOk result (λ field. IsFieldRow tables.now message path.now row.now.place field row.now) }
+    ensures { (field : Field) → IsFieldRow tables.now message path.now row.now.place field row.now → IfOk result (λ read. read ≡ field) }
 {
-    let Some(name) = tables.field_names_row(row.name) else {
-        unreachable!()
+    let name = match tables.field_names_row(row.name) {
+        Some(name) => copied(alloc, &name.name)?,
+        None => Octets::new(Vec::new(alloc)),
     };
-    let name = copied(alloc, &name.name)?;
     let value = value_in(alloc, tables, message, path, row)?;
     Ok(Field { name, value })
 }

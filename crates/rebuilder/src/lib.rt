@@ -8,8 +8,5 @@ mod paths;
 mod stored;
 mod values;
 
-pub use mails::{law_one_mail, reason_in};
+pub use mails::{law_kept_mails_are_rebuilt, law_one_mail, reason_in};
 pub use stored::{header, message, tree};
-
-#[cfg(test)]
-mod tests;

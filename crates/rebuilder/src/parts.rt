@@ -1,47 +1,67 @@
 // Parts from their rows.
-ghost use Rattle.std.specs.Prelude.{◌≡◌, ℕ, List, IfOk};
+ghost use Rattle.std.specs.Prelude.{◌≡◌, ◌≤◌, ℕ, List, IfOk};
 ghost use Rattle.mime_tree.specs.Contents.{content_of, trees_of};
+ghost use Rattle.mime_tree.specs.Sizes.{levels, levels_in, levels_of};
 ghost use Rattle.mime_tree.specs.Trees.{Content, Tree, Trees};
 ghost use Rattle.mime_tree.specs.Trees.Content.{leaf};
 ghost use Rattle.shredder.specs.MessageRows.{HasBody, HasChildren, HasNode};
 ghost use Rattle.shredder.specs.Paths.{child_path};
-ghost use Rattle.rebuilder.specs.Rebuilding.{IsPart};
+ghost use Rattle.rebuilder.specs.Parts.{IsPart};
 
 use crate::fields::fields_in;
 use crate::paths::child_of;
 use crate::values::copied;
 use mime_tree::{Body, Encoding, Message};
+use octets::Octets;
 use row_tables::{PartNumber, Tables};
 use std::alloc::{AllocError, Global};
 
-// The message or part whose row this is.
+// The message or part whose row this is, of at most so many levels.
 #[cycle(tree)]
 pub(crate) fn node_in(
     alloc: Global,
     tables: &Tables,
     part: &PartNumber,
+    most: usize,
 ) -> Result<Message, AllocError>
-    requires part { IsPart tables.now part.now }
-    requires rows { (tree : Tree) × HasNode tables.now part.now.message part.now.path tree }
-    ensures { IfOk result (HasNode tables.now part.now.message part.now.path) }
+    ensures { (tree : Tree) → IsPart tables.now part.now → HasNode tables.now part.now.message part.now.path tree → levels tree ≤ most
+        → IfOk result (λ message. message ≡ tree) }
 {
+    if most == 0 {
+        return Ok(empty_message(alloc));
+    }
     let fields = fields_in(alloc, tables, part.message, part.path.as_slice())?;
-    let body = body_in(alloc, tables, part)?;
+    let body = body_in(alloc, tables, part, most - 1)?;
     Ok(Message { fields, body })
 }
 
+// A message with nothing in it, which stands for what isn't there.
+pub(crate) fn empty_message(alloc: Global) -> Message {
+    Message {
+        fields: Vec::new(alloc),
+        body: Body::Leaf {
+            encoding: Encoding::Plain,
+            bytes: Octets::new(Vec::new(alloc)),
+        },
+    }
+}
+
 #[cycle(tree)]
-fn body_in(alloc: Global, tables: &Tables, part: &PartNumber) -> Result<Body, AllocError>
-    requires part { IsPart tables.now part.now }
-    requires rows { (content : Content) × HasBody tables.now part.now.message part.now.path content }
-    ensures { IfOk result (λ body. HasBody tables.now part.now.message part.now.path (content_of body)) }
+fn body_in(
+    alloc: Global,
+    tables: &Tables,
+    part: &PartNumber,
+    most: usize,
+) -> Result<Body, AllocError>
+    ensures { (content : Content) → IsPart tables.now part.now → HasBody tables.now part.now.message part.now.path content → levels_in content ≤ most
+        → IfOk result (λ body. content_of body ≡ content) }
 {
     match part.kind {
         0 => leaf_in(alloc, tables, part, Encoding::Plain),
         1 => leaf_in(alloc, tables, part, Encoding::Base64),
-        2 => Ok(Body::Multi(children_in(alloc, tables, part)?)),
+        2 => Ok(Body::Multi(children_in(alloc, tables, part, most)?)),
         _ => {
-            let inner = inner_in(alloc, tables, part)?;
+            let inner = inner_in(alloc, tables, part, most)?;
             Ok(Body::Nested(Box::new(alloc, inner)?))
         }
     }
@@ -53,30 +73,33 @@ fn children_in(
     alloc: Global,
     tables: &Tables,
     part: &PartNumber,
+    most: usize,
 ) -> Result<Vec<Message>, AllocError>
-    requires { (trees : Trees) × HasChildren tables.now part.now.message part.now.path 1 trees }
-    ensures { IfOk result (λ v. HasChildren tables.now part.now.message part.now.path 1 (trees_of v.items)) }
+    ensures { (trees : Trees) → HasChildren tables.now part.now.message part.now.path 1 trees → levels_of trees ≤ most
+        → IfOk result (λ v. trees_of v.items ≡ trees) }
 {
     let mut children = Vec::new(alloc);
-    for number in 1..u64::MAX {
-        let Some(child) = child_of(alloc, tables, part, number)? else {
-            return Ok(children);
-        };
-        children.push(node_in(alloc, tables, child)?)?;
+    'parts: while let Some(child) = child_of(alloc, tables, part, 1 + children.len() as u64)? {
+        children.push(node_in(alloc, tables, child, most)?)?;
     }
-    unreachable!()
+    Ok(children)
 }
 
 // The message within a part.
 #[cycle(tree)]
-fn inner_in(alloc: Global, tables: &Tables, part: &PartNumber) -> Result<Message, AllocError>
-    requires { (tree : Tree) × HasNode tables.now part.now.message (child_path part.now.path 0) tree }
-    ensures { IfOk result (HasNode tables.now part.now.message (child_path part.now.path 0)) }
+fn inner_in(
+    alloc: Global,
+    tables: &Tables,
+    part: &PartNumber,
+    most: usize,
+) -> Result<Message, AllocError>
+    ensures { (tree : Tree) → HasNode tables.now part.now.message (child_path part.now.path 0) tree → levels tree ≤ most
+        → IfOk result (λ message. message ≡ tree) }
 {
-    let Some(inner) = child_of(alloc, tables, part, 0)? else {
-        unreachable!()
-    };
-    Ok(node_in(alloc, tables, inner)?)
+    match child_of(alloc, tables, part, 0)? {
+        Some(inner) => node_in(alloc, tables, inner, most),
+        None => Ok(empty_message(alloc)),
+    }
 }
 
 // The body of a leaf.
@@ -86,13 +109,12 @@ fn leaf_in(
     part: &PartNumber,
     encoding: Encoding,
 ) -> Result<Body, AllocError>
-    requires part { IsPart tables.now part.now }
-    requires rows { (bytes : List ℕ) × HasBody tables.now part.now.message part.now.path (leaf encoding bytes) }
-    ensures { IfOk result (λ body. HasBody tables.now part.now.message part.now.path (content_of body)) }
+    ensures { (bytes : List ℕ) → IsPart tables.now part.now → HasBody tables.now part.now.message part.now.path (leaf encoding bytes)
+        → IfOk result (λ body. content_of body ≡ leaf encoding bytes) }
 {
-    let Some(row) = tables.bodyparts_row(part.body) else {
-        unreachable!()
+    let bytes = match tables.bodyparts_row(part.body) {
+        Some(row) => copied(alloc, &row.content)?,
+        None => Octets::new(Vec::new(alloc)),
     };
-    let bytes = copied(alloc, &row.content)?;
     Ok(Body::Leaf { encoding, bytes })
 }

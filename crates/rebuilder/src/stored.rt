@@ -2,7 +2,7 @@
 ghost use Rattle.std.specs.Prelude.{◌≡◌, false, IfOk, OnOk, IsOk, IsErrOf};
 ghost use Rattle.canon_writer.specs.Printing.{print};
 ghost use Rattle.mime_tree.specs.declared.reasons.Mail.{Mail};
-ghost use Rattle.row_store.specs.ThreeFiles.{FaultRose, KeepsDisks};
+ghost use Rattle.row_store.specs.ThreeFiles.{FaultRose, KeepsDisks, LeavesAllAlone};
 ghost use Rattle.row_store.specs.Holding.{stored};
 ghost use Rattle.row_store.specs.Crashes.{Stays};
 ghost use Rattle.row_store.specs.declared.faults.StoreFault.{StoreFault};
@@ -18,14 +18,16 @@ use std::alloc::{AllocError, Global};
 
 /// The message of the mail whose rows the message with the id has. Takes time in its length, and O(log r) for each part, field and
 /// item of a field over r rows. Bodies have their content in their rows, so no disk is called.
+///
+/// Rows that are no mail's, and those of a mail of more than 100 levels, give a message too, with nothing below its 101st level;
+/// which message, isn't promised. So it is where no message has the id.
 pub fn tree<D: Disk>(alloc: Global, store: &mut RowStore<D>, id: u64) -> Result<Message, StoreFault>
     requires usable { store.old.spent ≡ false }
-    requires there { HasMail store.old.tables id }
-    ensures tree { IfOk result (λ message. (mail : Mail) → HasRows store.old.tables id mail → message ≡ mail.message) }
+    ensures tree { (mail : Mail) → HasMail store.old.tables id mail → IfOk result (λ message. message ≡ mail.message) }
     ensures tables { store.new.tables ≡ store.old.tables }
     ensures placed { store.new.placed ≡ store.old.placed }
     ensures crash { Stays D.told (IsOk result) store.old.files store.new.files (stored store.old.tables) }
-    ensures untouched { store.new.files ≡ store.old.files }
+    ensures untouched { LeavesAllAlone D.told store.old.files store.new.files }
     ensures goes_on { OnOk result (store.new.spent ≡ false) }
     ensures failed { IsErrOf result StoreFault.Failed → FaultRose D.told store.old.files store.new.files }
     ensures disks { KeepsDisks D.told store.old.files store.new.files }
@@ -41,12 +43,11 @@ pub fn message<D: Disk>(
     id: u64,
 ) -> Result<Vec<u8>, StoreFault>
     requires usable { store.old.spent ≡ false }
-    requires there { HasMail store.old.tables id }
-    ensures text { IfOk result (λ text. (mail : Mail) → HasRows store.old.tables id mail → text.items ≡ print mail.message) }
+    ensures text { (mail : Mail) → HasMail store.old.tables id mail → IfOk result (λ text. text.items ≡ print mail.message) }
     ensures tables { store.new.tables ≡ store.old.tables }
     ensures placed { store.new.placed ≡ store.old.placed }
     ensures crash { Stays D.told (IsOk result) store.old.files store.new.files (stored store.old.tables) }
-    ensures untouched { store.new.files ≡ store.old.files }
+    ensures untouched { LeavesAllAlone D.told store.old.files store.new.files }
     ensures goes_on { OnOk result (store.new.spent ≡ false) }
     ensures failed { IsErrOf result StoreFault.Failed → FaultRose D.told store.old.files store.new.files }
     ensures disks { KeepsDisks D.told store.old.files store.new.files }
@@ -56,15 +57,14 @@ pub fn message<D: Disk>(
 }
 
 /// The header fields of the message itself, in their order. Neither the rows of its parts nor those of bodies are looked at, and no
-/// disk is called.
+/// disk is called. Rows that are no mail's give fields too, as for `tree`.
 pub fn header<D: Disk>(
     alloc: Global,
     store: &RowStore<D>,
     id: u64,
 ) -> Result<Vec<Field>, AllocError>
     requires usable { store.now.spent ≡ false }
-    requires there { HasMail store.now.tables id }
-    ensures { IfOk result (λ fields. (mail : Mail) → HasRows store.now.tables id mail → fields.items ≡ top_fields mail.message) }
+    ensures { (mail : Mail) → HasRows store.now.tables id mail → IfOk result (λ fields. fields.items ≡ top_fields mail.message) }
 {
     Ok(header_in(alloc, store.tables(), id)?)
 }

@@ -1,13 +1,11 @@
 // Values of fields from their rows.
-ghost use Rattle.std.specs.Prelude.{◌≡◌, ℕ, List, Some, length, IfOk};
+ghost use Rattle.std.specs.Prelude.{◌≡◌, ℕ, List, length, IfOk};
 ghost use Rattle.mime_tree.specs.declared.values.Field.{Field};
 ghost use Rattle.mime_tree.specs.declared.values.Item.{Item};
 ghost use Rattle.mime_tree.specs.declared.values.SentDate.{SentDate};
-ghost use Rattle.ordered_rows.specs.Listed.{row_at};
-ghost use Rattle.row_tables.specs.Keys.{field_key, date_field_key};
 ghost use Rattle.row_tables.specs.References.{addresses_at, ids_at};
-ghost use Rattle.shredder.specs.MessageRows.{AreItemRows, IsFieldRow, IsItemRow, date_row, id_rows};
-ghost use Rattle.rebuilder.specs.Rebuilding.{IsDateRow, IsValueRow};
+ghost use Rattle.shredder.specs.MessageRows.{AreItemRows, IsFieldRow, IsItemRow, id_rows};
+ghost use Rattle.rebuilder.specs.Parts.{IsDateRow};
 
 use mime_tree::{Item, SentDate, Value};
 use octets::Octets;
@@ -23,8 +21,7 @@ pub(crate) fn value_in(
     path: &[u8],
     row: &HeaderField,
 ) -> Result<Value, AllocError>
-    requires { (field : Field) × IsFieldRow tables.now message path.now row.now.place field row.now }
-    ensures { IfOk result (IsValueRow tables.now message path.now row.now) }
+    ensures { (field : Field) → IsFieldRow tables.now message path.now row.now.place field row.now → IfOk result (λ value. value ≡ field.value) }
 {
     match row.form {
         0 => Ok(Value::Text(copied(alloc, &row.value)?)),
@@ -41,8 +38,8 @@ fn items_in(
     path: &[u8],
     place: u32,
 ) -> Result<Items<Item>, AllocError>
-    requires { (items : List Item) × AreItemRows tables.now.shared.addresses 0 items (addresses_at message path.now place tables.now.mails.address_fields) }
-    ensures { IfOk result (λ items. AreItemRows tables.now.shared.addresses 0 items (addresses_at message path.now place tables.now.mails.address_fields)) }
+    ensures { (items : List Item) → AreItemRows tables.now.shared.addresses 0 items (addresses_at message path.now place tables.now.mails.address_fields)
+        → IfOk result (λ read. read ≡ items) }
 {
     let mut items = Vec::new(alloc);
     let mut rows = tables.address_fields_at(message, path, place);
@@ -54,14 +51,13 @@ fn items_in(
 
 // The item whose row this is.
 fn item_in(alloc: Global, tables: &Tables, row: &AddressField) -> Result<Item, AllocError>
-    requires { (item : Item) × IsItemRow tables.now.shared.addresses row.now.item item row.now }
-    ensures { IfOk result (λ item. IsItemRow tables.now.shared.addresses row.now.item item row.now) }
+    ensures { (item : Item) → IsItemRow tables.now.shared.addresses row.now.item item row.now → IfOk result (λ read. read ≡ item) }
 {
     if row.kind >= 2 {
         return Ok(Item::GroupEnd);
     }
     let Some(address) = tables.addresses_row(row.address) else {
-        unreachable!()
+        return Ok(Item::GroupEnd);
     };
     let name = copied(alloc, &address.name)?;
     if row.kind == 1 {
@@ -76,20 +72,33 @@ fn item_in(alloc: Global, tables: &Tables, row: &AddressField) -> Result<Item, A
     })
 }
 
+// A date that isn't there has blanks for its text, and the moment 0.
 fn date_in(tables: &Tables, message: u64, path: &[u8], place: u32) -> SentDate
-    requires { (date : SentDate) × IsDateRow tables.now message path.now place date }
-    ensures { IsDateRow tables.now message path.now place result }
+    ensures { (date : SentDate) → IsDateRow tables.now message path.now place date → result ≡ date }
 {
-    let Some(row) = tables.date_fields_row((message, path, place)) else {
-        unreachable!()
-    };
-    let mut text = [0; 31];
-    text.copy_from_slice(row.value.as_slice());
-    SentDate {
-        text,
-        seconds: row.seconds,
-        day: row.day,
+    match tables.date_fields_row((message, path, place)) {
+        Some(row) => SentDate {
+            text: printed(row.value.as_slice()),
+            seconds: row.seconds,
+            day: row.day,
+        },
+        None => SentDate {
+            text: [b' '; 31],
+            seconds: 0,
+            day: 0,
+        },
     }
+}
+
+// The text of a date, and blanks where it has another length than that of one.
+fn printed(text: &[u8]) -> [u8; 31]
+    ensures { length text.now ≡ 31 → result ≡ text.now }
+{
+    let mut printed = [b' '; 31];
+    if text.len() == 31 {
+        printed.copy_from_slice(text);
+    }
+    printed
 }
 
 fn ids_in(
@@ -99,8 +108,8 @@ fn ids_in(
     path: &[u8],
     place: u32,
 ) -> Result<Items<Octets>, AllocError>
-    requires { (ids : List (List ℕ)) × (ids_at message path.now place tables.now.mails.message_ids ≡ id_rows message path.now place 0 ids) }
-    ensures { IfOk result (λ ids. ids_at message path.now place tables.now.mails.message_ids ≡ id_rows message path.now place 0 ids) }
+    ensures { (ids : List (List ℕ)) → ids_at message path.now place tables.now.mails.message_ids ≡ id_rows message path.now place 0 ids
+        → IfOk result (λ read. read ≡ ids) }
 {
     let mut ids = Vec::new(alloc);
     let mut rows = tables.message_ids_at(message, path, place);

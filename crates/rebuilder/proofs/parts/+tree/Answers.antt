@@ -1,84 +1,78 @@
-use Rattle.std.proofs.Common.{◌≡◌, ◌∷◌, ◌++◌, ◌<◌, [], Some, None, sym, ap, ◌∙◌, lit<, arith}
+use Rattle.std.proofs.Common.{◌≡◌, ℕ, ◌≤◌, ◌<◌, ◌+◌, ◌-◌, ◌++◌, ◌∷◌, [], length, Some, None, IfOk, sym, ap, ◌∙◌, subst, arith}
+use Rattle.std.proofs.lemmas.List.{length_push}
 use Rattle.std.specs.Option.{option_copied}
+use Rattle.mime_tree.specs.Contents.{content_of, trees_of}
+use Rattle.mime_tree.specs.Sizes.{levels_in}
+use Rattle.mime_tree.specs.Trees.Tree.{node}
+use Rattle.mime_tree.specs.Trees.Content.{multi, nested}
 use Rattle.shredder.specs.Paths.{child_path}
 use Rattle.shredder.specs.MessageRows.{part_at}
-use Rattle.rebuilder.proofs.Bodies.{plain_leaf, base64_leaf, is_multi, is_nested, parts_of}
+use Rattle.rebuilder.proofs.Bodies.{plain, base64, multipart, within}
 use Rattle.rebuilder.proofs.OneMail.{nowhere}
-use Rattle.rebuilder.proofs.Children.{node_there, read_there, next_child, gone_on, ended, less_left}
+use Rattle.rebuilder.proofs.Children.{AreHalfway, at_row, gone_on, ended}
 use Rattle.rebuilder.proofs.parts.+tree.Goals as goal
 
-pub body_in-leaf_in-requires-clause-rows : goal.body_in-leaf_in-requires-clause-rows
-body_in-leaf_in-requires-clause-rows t c = plain_leaf c.args.tables.now c.args.part.now c.requires.part c.requires.rows.0 c.requires.rows.1 c.in-0.is
+pub body_in-returns-in-0 : goal.body_in-returns-in-0
+body_in-returns-in-0 t c content there h few =
+    plain c.args.tables.now c.args.part.now there (λ x. IfOk c.leaf_in.result (λ body. content_of body ≡ x))
+    (λ bytes k. c.leaf_in.ensures bytes there k) c.in-0.is content h
 
-pub body_in-leaf_in-requires-in-1-clause-rows : goal.body_in-leaf_in-requires-in-1-clause-rows
-body_in-leaf_in-requires-in-1-clause-rows t c = base64_leaf c.args.tables.now c.args.part.now c.requires.part c.requires.rows.0 c.requires.rows.1 c.in-1.is
-
-pub body_in-children_in-requires : goal.body_in-children_in-requires
-body_in-children_in-requires t c =
-    let m = is_multi c.args.tables.now c.args.part.now c.requires.part c.requires.rows.0 c.requires.rows.1 c.in-2.is in
-    (omega arith, (m.trees, m.children))
-
-pub body_in-inner_in-requires : goal.body_in-inner_in-requires
-body_in-inner_in-requires t c =
-    let above : 2 < c.args.part.now.kind = omega arith in
-    let n = is_nested c.args.tables.now c.args.part.now c.requires.part c.requires.rows.0 c.requires.rows.1 above in
-    (omega arith, (n.tree, n.rows))
+pub body_in-returns-in-1 : goal.body_in-returns-in-1
+body_in-returns-in-1 t c content there h few =
+    base64 c.args.tables.now c.args.part.now there (λ x. IfOk c.leaf_in-in-1.result (λ body. content_of body ≡ x))
+    (λ bytes k. c.leaf_in-in-1.ensures bytes there k) c.in-1.is content h
 
 pub body_in-returns-in_ok-children_in-in-2 : goal.body_in-returns-in_ok-children_in-in-2
-body_in-returns-in_ok-children_in-in-2 t c =
-    let m = is_multi c.args.tables.now c.args.part.now c.requires.part c.requires.rows.0 c.requires.rows.1 c.in-2.is in
-    (m.inner, c.in_ok-children_in-in-2.ensures)
+body_in-returns-in_ok-children_in-in-2 t c content there h few =
+    multipart c.args.tables.now c.args.part.now there (λ x. levels_in x ≤ c.args.most → multi (trees_of c.in_ok-children_in-in-2.field-0.items) ≡ x)
+    (λ trees k less. ap multi (c.in_ok-children_in-in-2.ensures trees k less)) c.in-2.is content h few
 
 pub body_in-returns-in_ok-new-in_default : goal.body_in-returns-in_ok-new-in_default
-body_in-returns-in_ok-new-in_default t c =
+body_in-returns-in_ok-new-in_default t c content there h few =
     let above : 2 < c.args.part.now.kind = omega arith in
-    let n = is_nested c.args.tables.now c.args.part.now c.requires.part c.requires.rows.0 c.requires.rows.1 above in
-    (n.inner, rw c.in_ok-new-in_default.ensures.ok c.in_ok-inner-in_default.ensures)
+    within c.args.tables.now c.args.part.now there (λ x. levels_in x ≤ c.args.most → nested c.in_ok-new-in_default.field-0.value ≡ x)
+    (λ tree k less. ap nested (c.in_ok-new-in_default.ensures.ok ∙ c.in_ok-inner-in_default.ensures tree k less)) above content h few
 
-pub children_in-returns-in_default : goal.children_in-returns-in_default
-children_in-returns-in_default t c =
-    let none : part_at c.args.tables.now c.args.part.now.message (child_path c.args.part.now.path c.loop-number.number) ≡ None = sym c.in_ok-child.ensures ∙ ap option_copied c.in_default.is in
-    ended c.args.tables.now c.args.part.now.message c.args.part.now.path _ _ c.loop-number.invariant none
-
-pub children_in-node_in-requires : goal.children_in-node_in-requires
-children_in-node_in-requires t c =
-    let there : part_at c.args.tables.now c.args.part.now.message (child_path c.args.part.now.path c.loop-number.number) ≡ Some c.in-Some.child.now = sym c.in_ok-child.ensures ∙ ap option_copied c.in-Some.is in
-    let child = next_child c.args.tables.now c.args.part.now.message c.args.part.now.path _ _ _ c.loop-number.invariant there in
-    let less = less_left c.args.tables.now c.args.part.now c.in-Some.child.now c.loop-number.number (omega arith) child in
-    (omega arith, (child.part, (child.tree, child.rows)))
-
-pub children_in-loop-number-preserved : goal.children_in-loop-number-preserved
-children_in-loop-number-preserved t c =
-    let there : part_at c.args.tables.now c.args.part.now.message (child_path c.args.part.now.path c.loop-number.number) ≡ Some c.in-Some.child.now = sym c.in_ok-child.ensures ∙ ap option_copied c.in-Some.is in
+pub children_in-parts-preserved : goal.children_in-parts-preserved
+children_in-parts-preserved t c trees h few =
+    let tables = c.args.tables.now in
+    let message = c.args.part.now.message in
+    let path = c.args.part.now.path in
+    let done = c.parts.children.items in
     let read = c.in_ok-node_in.field-0 in
-    let child = next_child c.args.tables.now c.args.part.now.message c.args.part.now.path _ _ _ c.loop-number.invariant there in
-    let pushed : c.push.new.self.items ≡ c.loop-number.children.items ++ read ∷ [] = c.in_ok-push.ensures.items in
-    rw pushed (gone_on c.args.tables.now c.args.part.now.message c.args.part.now.path _ _ _ read c.loop-number.invariant there (read_there c.args.tables.now c.args.part.now.message _ _ read child c.in_ok-node_in.ensures))
+    let there : part_at tables message (child_path path (1 + length done)) ≡ Some c.in-Some.child.now =
+    subst (λ (n : ℕ). part_at tables message (child_path path (1 + n)) ≡ Some c.in-Some.child.now) (c.len.ensures ∙ c.parts.children.ok.0) (sym c.in_ok-child.ensures ∙ ap option_copied c.in-Some.is) in
+    let pushed : c.push.new.self.items ≡ done ++ read ∷ [] = c.in_ok-push.ensures.items in
+    let number : 1 + length done + 1 ≡ 1 + length (done ++ read ∷ []) = omega (arith, length_push done read) in
+    rw pushed
+    (subst (λ n. AreHalfway tables message path c.args.most trees (done ++ read ∷ []) n) number
+    (gone_on tables message path c.args.most trees done (1 + length done) c.in-Some.child.now read c.in_ok-node_in.ensures there (c.parts.invariant trees h few)))
 
-pub inner_in-unreachable-requires : goal.inner_in-unreachable-requires
-inner_in-unreachable-requires t c =
-    let none : part_at c.args.tables.now c.args.part.now.message (child_path c.args.part.now.path 0) ≡ None = sym c.in_ok-inner.ensures ∙ ap option_copied c.in_default.is in
-    nowhere c.args.tables.now c.args.part.now.message (child_path c.args.part.now.path 0) c.requires.0 c.requires.1 none
+pub children_in-returns : goal.children_in-returns
+children_in-returns t c trees h few =
+    let tables = c.args.tables.now in
+    let message = c.args.part.now.message in
+    let path = c.args.part.now.path in
+    let done = c.parts.children.items in
+    let none : part_at tables message (child_path path (1 + length done)) ≡ None =
+    subst (λ (n : ℕ). part_at tables message (child_path path (1 + n)) ≡ None) (c.len.ensures ∙ c.parts.children.ok.0) (sym c.in_ok-child.ensures ∙ ap option_copied c.in_default.is) in
+    ended tables message path c.args.most trees done (1 + length done) none (c.parts.invariant trees h few)
 
-pub inner_in-node_in-requires : goal.inner_in-node_in-requires
-inner_in-node_in-requires t c =
-    let there : part_at c.args.tables.now c.args.part.now.message (child_path c.args.part.now.path 0) ≡ Some c.in-Some.inner.now = sym c.in_ok-inner.ensures ∙ ap option_copied c.in-Some.is in
-    let child = node_there c.args.tables.now c.args.part.now.message (child_path c.args.part.now.path 0) c.requires.0 c.in-Some.inner.now c.requires.1 there in
-    let less = less_left c.args.tables.now c.args.part.now c.in-Some.inner.now 0 (lit< tt) child in
-    (omega arith, (child.part, (child.tree, child.rows)))
+pub inner_in-returns-in-Some : goal.inner_in-returns-in-Some
+inner_in-returns-in-Some t c tree h few =
+    let path = child_path c.args.part.now.path 0 in
+    let there : part_at c.args.tables.now c.args.part.now.message path ≡ Some c.in-Some.inner.now = sym c.in_ok-inner.ensures ∙ ap option_copied c.in-Some.is in
+    at_row c.args.tables.now c.args.part.now.message c.args.most (λ tree. IfOk c.node_in.result (λ message. message ≡ tree)) path tree c.in-Some.inner.now c.node_in.ensures there h few
 
-pub inner_in-returns : goal.inner_in-returns
-inner_in-returns t c =
-    let there : part_at c.args.tables.now c.args.part.now.message (child_path c.args.part.now.path 0) ≡ Some c.in-Some.inner.now = sym c.in_ok-inner.ensures ∙ ap option_copied c.in-Some.is in
-    let child = node_there c.args.tables.now c.args.part.now.message (child_path c.args.part.now.path 0) c.requires.0 c.in-Some.inner.now c.requires.1 there in
-    read_there c.args.tables.now c.args.part.now.message (child_path c.args.part.now.path 0) c.in-Some.inner.now c.in_ok-node_in.field-0 child c.in_ok-node_in.ensures
+pub inner_in-returns-in-None : goal.inner_in-returns-in-None
+inner_in-returns-in-None t c tree h few =
+    let none : part_at c.args.tables.now c.args.part.now.message (child_path c.args.part.now.path 0) ≡ None = sym c.in_ok-inner.ensures ∙ ap option_copied c.in-None.is in
+    absurd (nowhere c.args.tables.now c.args.part.now.message (child_path c.args.part.now.path 0) tree h none)
 
-pub node_in-fields_in-requires : goal.node_in-fields_in-requires
-node_in-fields_in-requires t c =
-    let parts = parts_of c.args.tables.now c.args.part.now.message c.args.part.now.path c.requires.rows.0 c.requires.rows.1 in
-    rw c.as_slice.ensures (parts.fields, parts.field_rows)
+pub node_in-returns-then-most-eq0 : goal.node_in-returns-then-most-eq0
+node_in-returns-then-most-eq0 t c (node fields content) there h few = absurd (omega (arith, few, c.if-most-eq0.true))
 
-pub node_in-body_in-requires : goal.node_in-body_in-requires
-node_in-body_in-requires t c =
-    let parts = parts_of c.args.tables.now c.args.part.now.message c.args.part.now.path c.requires.rows.0 c.requires.rows.1 in
-    (omega arith, (c.requires.part, (parts.content, parts.body)))
+pub node_in-returns : goal.node_in-returns
+node_in-returns t c (node fields content) there h few =
+    let less : levels_in content ≤ c.args.most - 1 = omega (arith, few) in
+    ap (λ fs. node fs (content_of c.in_ok-body.body)) (c.in_ok-fields.ensures fields (rw c.as_slice.ensures h.0)) ∙ ap (node fields) (c.in_ok-body.ensures content there h.1 less)
