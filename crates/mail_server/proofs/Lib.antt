@@ -4,4 +4,5 @@ pub mod Reached
 pub mod Progress
 pub mod Transfers
 pub mod Readings
+pub mod Answering
 pub mod StoreFiles

@@ -1,6 +1,6 @@
 -- What the text of a script says, and the lines of its sessions.
 use Rattle.std.proofs.Common.{◌≡◌, ℕ, zero, suc, ◌+◌, ◌<◌, ◌≤◌, Bool, true, false, cond, nat_lt, nat_le, List, [], ◌∷◌, ◌++◌, length, get_or, map, refl, sym, ◌∙◌, ap, arith, length-append, subst}
-use Rattle.std.specs.Prelude.{Option, Some, None, Result, Ok, Err, IfSome, flat_map}
+use Rattle.std.specs.Prelude.{Option, Some, None, Result, flat_map}
 use Rattle.std.specs.List.{range_with_len}
 use Rattle.std.proofs.lemmas.List.{append-nil}
 use Rattle.std.proofs.lemmas.Grind.{flat_map-append}
@@ -11,7 +11,7 @@ use Rattle.port_model.specs.Transcript.{session_lines}
 use Rattle.mail_server.specs.Run.{ReadsUpTo, End, limit_of, end_of, end_of_long, end_of_text, end_of_events, transcript_of}
 use Rattle.mail_server.specs.declared.words.Task.{Task}
 use Rattle.mail_server.specs.declared.words.Task.TheVariants.{Script, Canon}
-use Rattle.mail_server.specs.declared.status.Status.TheVariants.{Done, Usage, ReadFault, WriteFault, StoreFault, NotAStore}
+use Rattle.mail_server.specs.declared.status.Status.TheVariants.{Done}
 
 pub end-long : (task : Task) (text : List ℕ) (now : ℕ) → limit_of task < length text → end_of task text now ≡ end_of_long task
 unfolding end_of
@@ -63,21 +63,6 @@ one-word f [] word some few is = absurd (omega arith)
 one-word f (w ∷ []) word some few is = ap (λ x. f x ∷ []) (sym is)
 one-word f (w ∷ v ∷ vs) word some few is = absurd (omega arith)
 
--- What holds of what was read says of the whole text, where it is told.
-pub IfSome-read : (task : Task) (limit now : ℕ) (old new : Option (List ℕ)) (bytes : List ℕ) → limit ≡ limit_of task → ReadsUpTo limit bytes old new
-    → (P : End → Type 0) → P (end_of task bytes now) → IfSome old (λ text. P (end_of task text now))
-IfSome-read task limit now None new bytes is reads P fact = tt
-IfSome-read task limit now (Some text) new bytes is reads P fact = subst P (end-read task text bytes now new (subst (λ (n : ℕ). ReadsUpTo n bytes (Some text) new) is reads)) fact
-
--- what holds of a told text, at each moment
-pub IfSome-all : (old : Option (List ℕ)) (P : ℕ → List ℕ → Type 0) → ((now : ℕ) → IfSome old (P now)) → IfSome old (λ text. (now : ℕ) → P now text)
-IfSome-all None P fact = tt
-IfSome-all (Some text) P fact = fact
-
-pub IfSome-map : (old : Option (List ℕ)) (P Q : List ℕ → Type 0) → ((text : List ℕ) → P text → Q text) → IfSome old P → IfSome old Q
-IfSome-map None P Q more fact = tt
-IfSome-map (Some text) P Q more fact = more text fact
-
 -- a text by which a run is done isn't too long
 pub short-done : (task : Task) (bytes : List ℕ) (now : ℕ) → Done ≡ (end_of task bytes now).status → length bytes ≤ limit_of task
 short-done task bytes now done = by_length (nat_le (length bytes) (limit_of task)) refl
@@ -91,31 +76,3 @@ short-done task bytes now done = by_length (nat_le (length bytes) (limit_of task
     by_length false is =
         let gt : limit_of task < length bytes = grind (arith, nat_tests, is) in
         absurd (long-isnt task (sym (done ∙ ap (λ (e : End). e.status) (end-long task bytes now gt))))
-
--- No text ends a run as if the words were bad or a call had failed.
-pub end-isnt : (task : Task) (text : List ℕ) (now : ℕ) → ((end_of task text now).status ≡ Usage → ⊥) × ((end_of task text now).status ≡ ReadFault → ⊥) × ((end_of task text now).status ≡ WriteFault → ⊥) × ((end_of task text now).status ≡ StoreFault → ⊥) × ((end_of task text now).status ≡ NotAStore → ⊥)
-unfolding end_of
-end-isnt task text now = by_length task (nat_lt (limit_of task) (length text))
-  where
-    Isnt : End → Type 0
-    Isnt end = (end.status ≡ Usage → ⊥) × (end.status ≡ ReadFault → ⊥) × (end.status ≡ WriteFault → ⊥) × (end.status ≡ StoreFault → ⊥) × (end.status ≡ NotAStore → ⊥)
-
-    of-events : (said : Result (List Event) ℕ) → Isnt (end_of_events said)
-    of-events (Ok events) = ((λ e. cc), (λ e. cc), (λ e. cc), (λ e. cc), (λ e. cc))
-    of-events (Err number) = ((λ e. cc), (λ e. cc), (λ e. cc), (λ e. cc), (λ e. cc))
-
-    by_length : (task : Task) (long : Bool) → Isnt (cond long (end_of_long task) (end_of_text task text now))
-    by_length Script true = ((λ e. cc), (λ e. cc), (λ e. cc), (λ e. cc), (λ e. cc))
-    by_length Canon true = ((λ e. cc), (λ e. cc), (λ e. cc), (λ e. cc), (λ e. cc))
-    by_length Script false = of-events (script_events text)
-    by_length Canon false = ((λ e. cc), (λ e. cc), (λ e. cc), (λ e. cc), (λ e. cc))
-
--- The moment doesn't change how a run ends.
-pub status-same : (task : Task) (text : List ℕ) (now later : ℕ) → (end_of task text now).status ≡ (end_of task text later).status
-unfolding end_of
-status-same task text now later = by_length task (nat_lt (limit_of task) (length text))
-  where
-    by_length : (task : Task) (long : Bool) → (cond long (end_of_long task) (end_of_text task text now)).status ≡ (cond long (end_of_long task) (end_of_text task text later)).status
-    by_length task true = refl
-    by_length Script false = refl
-    by_length Canon false = refl

@@ -1,12 +1,11 @@
 -- What reads and writes one after another come to.
-use Rattle.std.proofs.Common.{◌≡◌, ℕ, ◌+◌, ◌-◌, ◌≤◌, List, [], ◌++◌, length, take, drop, refl, sym, ◌∙◌, ap, arith, append_assoc, subst, length-drop, length-take, length-append, inl}
+use Rattle.std.proofs.Common.{◌≡◌, ℕ, ◌+◌, ◌-◌, ◌≤◌, List, [], ◌++◌, length, take, drop, refl, sym, ◌∙◌, ap, arith, append_assoc, subst, length-drop, length-take, length-append}
 use Rattle.std.specs.Prelude.{Option, Some, None, Result, Ok, Err, OnErr}
 use Rattle.std.proofs.lemmas.List.{append-nil, take_all, take_min}
 use Rattle.std.proofs.Math.Seq.{take-add}
 use Rattle.port_model.specs.Streams.{Appends}
 use Rattle.port_model.specs.Transcript.{Extends}
-use Rattle.mail_server.specs.Run.{HasRead, ReadsSome, WritesText}
-use Rattle.mail_server.specs.declared.words.Task.{Task}
+use Rattle.mail_server.specs.Run.{HasRead, ReadsSome}
 
 pub Appends-none : (old : Option (List ℕ)) → Appends [] old old
 Appends-none None = refl
@@ -61,7 +60,3 @@ ReadsSome-none limit old = record { bytes = []; taken = HasRead-none old; within
 pub OnErr-always : {T E : Type 0} (result : Result T E) (P : Type 0) → P → OnErr result P
 OnErr-always (Ok value) P fact = tt
 OnErr-always (Err error) P fact = fact
-
-pub WritesText-none : (task : Task) (text readings later old : Option (List ℕ)) → WritesText task text readings later old old
-WritesText-none task None readings later old = record { bytes = []; appended = Appends-none old; front = tt }
-WritesText-none task (Some all) readings later old = record { bytes = []; appended = Appends-none old; front = inl refl }

@@ -2,5 +2,8 @@ pub mod Script
 pub mod Rounds
 pub mod OnScript
 pub mod Words
+pub mod Outside
 pub mod Run
+pub mod Texts
 pub mod Stores
+pub mod Does

@@ -1,12 +1,13 @@
 -- What a run of the server answers, reads and writes.
-use Rattle.std.specs.Prelude.{ℕ, ◌≡◌, ◌≤◌, ◌+◌, ◌==◌, ◌⊎◌, nat_lt, List, [], ◌∷◌, ◌++◌, Option, Some, None, Result, Ok, Err, IfSome, IsSomeAnd, IsTrue, length, flat_map, codes, decimal, if◌then◌else◌}
-use Rattle.std.specs.List.{list_any, range_with_len}
+use Rattle.std.specs.Prelude.{ℕ, ◌≡◌, ◌≤◌, ◌+◌, nat_lt, List, [], ◌∷◌, ◌++◌, Option, Some, None, Result, Ok, Err, IfSome, IfOk, IsSomeAnd, length, flat_map, codes, decimal, if◌then◌else◌}
+use Rattle.std.specs.List.{range_with_len}
 use Rattle.port_model.specs.declared.events.Event.{Event}
 use Rattle.port_model.specs.Script.{script_events}
-use Rattle.port_model.specs.Streams.{Appends, Reads as IsReading}
-use Rattle.port_model.specs.Transcript.{session_lines, Extends}
+use Rattle.port_model.specs.Streams.{Reads as IsReading}
+use Rattle.port_model.specs.Transcript.{session_lines}
 use Rattle.mime_reader.specs.Wrapping.{mail}
 use Rattle.canon_writer.specs.Printing.{print}
+use Rattle.mail_server.specs.declared.answer.Answer.{Answer}
 use Rattle.mail_server.specs.declared.status.Status.{Status}
 use Rattle.mail_server.specs.declared.status.Status.TheVariants.{Done, Usage, NoMemory, ReadFault, WriteFault, StoreFault, NotAStore, Refused, BadScript}
 use Rattle.mail_server.specs.declared.words.Task.{Task}
@@ -25,18 +26,6 @@ code_of StoreFault = 6
 code_of NotAStore = 7
 code_of Refused = 8
 code_of BadScript = 9
-
--- The run came to an end that its text gives: it is done, or the text is refused or is a bad script.
-abbrev pub IsEnd : Status → Type 0
-IsEnd status = (status ≡ Done) ⊎ ((status ≡ Refused) ⊎ (status ≡ BadScript))
-
--- the same by its number
-abbrev pub IsEndCode : ℕ → Type 0
-IsEndCode code = (code ≡ 0) ⊎ ((code ≡ 8) ⊎ (code ≡ 9))
-
--- A run ends with one of these numbers.
-abbrev pub IsCode : ℕ → Type 0
-IsCode code = IsTrue (list_any (λ known. known == code) (0 ∷ 2 ∷ 3 ∷ 4 ∷ 5 ∷ 6 ∷ 7 ∷ 8 ∷ 9 ∷ []))
 
 -- How a run ends that nothing comes in between of, and all that it writes.
 pub record End : Type 0 where
@@ -88,19 +77,20 @@ end_of_text Canon text now = record { status = Done; lines = canonical text now 
 unfoldable pub end_of : Task → List ℕ → ℕ → End
 end_of task text now = if nat_lt (limit_of task) (length text) then end_of_long task else end_of_text task text now
 
--- The moment that a run takes from its clock, where its readings tell it. A script has moments of its own.
-abbrev pub TakesMoment : Task → ℕ → Option (List ℕ) → Option (List ℕ) → Type 0
-TakesMoment Script now old new = Unit {0}
-TakesMoment Canon now old new = IsReading now old new
-
--- What holds at the moment that a run takes.
-abbrev pub AtMoment : Task → Option (List ℕ) → Option (List ℕ) → (ℕ → Type 0) → Type 0
-AtMoment task old new P = (now : ℕ) × TakesMoment task now old new × P now
+-- The moment that a run takes of its clock, where its readings tell it. A script has moments of its own, and leaves the clock alone.
+abbrev pub TakesMoment : {C : Type 0} → (C → Option (List ℕ)) → Task → ℕ → C → C → Type 0
+TakesMoment readings Script now old new = new ≡ old
+TakesMoment readings Canon now old new = IsReading now (readings old) (readings new)
 
 -- What is to be written, and how the run ends then.
 pub record IsAnswer (status : Status) (lines : List ℕ) (end : End) : Type 0 where
   pub status_is : status ≡ end.status
   pub lines_are : lines ≡ end.lines
+
+-- What a text has a run write at the moment that it takes, unless memory is refused.
+abbrev pub AnswersAt : {C E : Type 0} → (C → Option (List ℕ)) → Task → List ℕ → Result Answer E → C → C → Type 0
+AnswersAt readings task text result old new =
+    (now : ℕ) × TakesMoment readings task now old new × IfOk result (λ answer. IsAnswer answer.status answer.lines.items (end_of task text now))
 
 -- These bytes were read from the front of what was left, where the source tells it, which it does afterwards as before.
 abbrev pub HasRead : List ℕ → Option (List ℕ) → Option (List ℕ) → Type 0
@@ -123,41 +113,8 @@ pub record ReadsSome (limit : ℕ) (old new : Option (List ℕ)) : Type 0 where
   pub taken : HasRead bytes old new
   pub within : length bytes ≤ limit
 
--- A front of some bytes was written.
-pub record WritesFront (whole : List ℕ) (old new : Option (List ℕ)) : Type 0 where
-  pub bytes : List ℕ
-  pub appended : Appends bytes old new
-  pub front : Extends bytes whole
-
 -- What a run reads of its source: at most one byte more than its text may have.
 pub record ReadsText (task : Task) (old new : Option (List ℕ)) : Type 0 where
   pub bytes : List ℕ
   pub taken : HasRead bytes old new
   pub within : length bytes ≤ limit_of task + 1
-
--- The source was read to its end, or to the first byte past the longest text.
-abbrev pub ReadsWhole : Task → Option (List ℕ) → Option (List ℕ) → Type 0
-ReadsWhole task old new = (bytes : List ℕ) × ReadsUpTo (limit_of task) bytes old new
-
--- A front of what a run is to write: none of it yet, or some of it once the moment is taken.
-abbrev pub IsFront : Task → List ℕ → Option (List ℕ) → Option (List ℕ) → List ℕ → Type 0
-IsFront task text old new bytes = (bytes ≡ []) ⊎ AtMoment task old new (λ now. Extends bytes (end_of task text now).lines)
-
--- What a run writes, with these readings of its clock before and after: a front of what its text has it write, where the source
--- tells the text.
-pub record WritesText (task : Task) (text readings later old new : Option (List ℕ)) : Type 0 where
-  pub bytes : List ℕ
-  pub appended : Appends bytes old new
-  pub front : IfSome text (λ all. IsFront task all readings later bytes)
-
--- Where the source tells the text, the run wrote all that the text has it write.
-abbrev pub WritesAll : Task → Option (List ℕ) → Option (List ℕ) → Option (List ℕ) → Option (List ℕ) → Option (List ℕ) → Type 0
-WritesAll task text readings later old new = AtMoment task readings later (λ now. IfSome text (λ all. Appends (end_of task all now).lines old new))
-
--- Where the source tells the text, the run ends as the text has it, whatever the moment.
-abbrev pub EndsAs : Task → Option (List ℕ) → ℕ → Type 0
-EndsAs task text code = IfSome text (λ all. (now : ℕ) → code ≡ code_of (end_of task all now).status)
-
--- One reading was taken of a clock.
-abbrev pub ReadsClock : Option (List ℕ) → Option (List ℕ) → Type 0
-ReadsClock old new = (reading : ℕ) × IsReading reading old new

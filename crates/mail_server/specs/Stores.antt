@@ -1,14 +1,16 @@
--- What the words about the files of a store do.
-use Rattle.std.specs.Prelude.{ℕ, ◌≡◌, ◌⊎◌, List, [], ◌∷◌, Option, codes}
+-- What the words do about the files of a store: `init` and `tables`.
+use Rattle.std.specs.Prelude.{ℕ, ◌≡◌, List, [], ◌∷◌, Option, codes}
 use Rattle.disk_model.specs.Told.{Told}
 use Rattle.disk_model.specs.declared.disk.Files.{Files}
-use Rattle.port_model.specs.Streams.{Appends}
-use Rattle.row_tables.specs.TableRows.{TableRows, no_rows}
+use Rattle.row_tables.specs.TableRows.{TableRows}
 use Rattle.admin_texts.specs.Listing.{listing_of}
-use Rattle.row_store.specs.ThreeFiles.{FileBytes, IfRead, AreAtRest, MakesSure, MakesAllSure}
-use Rattle.row_store.specs.Holding.{Holds, HoldsNone, content_in, stored}
+use Rattle.row_store.specs.ThreeFiles.{FileBytes, IfRead, AreAtRest, FaultRose, CountsNoFault, MakesSure, MakesAllSure}
+use Rattle.row_store.specs.Holding.{Holds, HoldsNone, content_in, nothing_stored}
 use Rattle.row_store.specs.Crashes.{JointlyHolds}
-use Rattle.mail_server.specs.Run.{WritesFront}
+use Rattle.row_store.specs.Loading.{ReadsLogOnce}
+use Rattle.mail_server.specs.declared.status.Status.{Status}
+use Rattle.mail_server.specs.declared.status.Status.TheVariants.{Done, Usage, NoMemory, ReadFault, WriteFault, StoreFault, NotAStore, Refused, BadScript}
+use Rattle.mail_server.specs.Outside.{WritesAll, StopsWriting}
 
 -- the files hold these tables, with the content of each body
 abbrev pub HoldsTables : FileBytes → TableRows → Type 0
@@ -21,25 +23,49 @@ HoldsSome files = (tables : TableRows) × HoldsTables files tables
 abbrev pub store_exists : List ℕ
 store_exists = codes "refused: store exists\n"
 
--- What the word `init` makes of the files and writes, by the number that the run ends with.
-pub record MakesStore {D : Type 0} (told : Told D) (old new : Files D) (code : ℕ) (before after : Option (List ℕ)) : Type 0 where
-  -- Done: the files held no store, and now each joint image of them holds the empty one. Nothing is written.
-  pub done : code ≡ 0 → IfRead told old HoldsNone × JointlyHolds told new (stored no_rows ∷ []) × (after ≡ before)
-  -- Refused: the files hold a store, which stays as it is, and the line says so.
-  pub refused : code ≡ 8 → IfRead told old HoldsSome × MakesAllSure told old new × Appends store_exists before after
-  -- Where the line could not be written whole, the store stays as it is too.
-  pub unsaid : code ≡ 5 → MakesAllSure told old new
-  -- Nothing else is ever written, and no other file than the first log.
-  pub front : WritesFront store_exists before after
-  pub others : MakesSure told old.log1 new.log1 × MakesSure told old.bodies new.bodies
+-- How the word `init` ends: each status that it can end with, with its cause and what it leaves of the sink and the files. Only
+-- where the files hold a store is the sink called.
+abbrev pub InitEnds : {K D : Type 0} → (K → Option (List ℕ)) → (K → ℕ) → Told D → Status → K → K → Files D → Files D → Type 0
+InitEnds written faults told Done old new files files' =
+    IfRead told files HoldsNone × JointlyHolds told files' (nothing_stored ∷ []) × CountsNoFault told files files' × (new ≡ old)
+InitEnds written faults told Refused old new files files' =
+    IfRead told files HoldsSome × CountsNoFault told files files' × WritesAll written faults store_exists old new
+InitEnds written faults told NoMemory old new files files' = CountsNoFault told files files' × (new ≡ old)
+InitEnds written faults told WriteFault old new files files' =
+    IfRead told files HoldsSome × CountsNoFault told files files' × StopsWriting written faults store_exists old new
+InitEnds written faults told StoreFault old new files files' = FaultRose told files files' × (new ≡ old)
+InitEnds written faults told Usage old new files files' = ⊥
+InitEnds written faults told ReadFault old new files files' = ⊥
+InitEnds written faults told NotAStore old new files files' = ⊥
+InitEnds written faults told BadScript old new files files' = ⊥
 
--- What the word `tables` writes, by the number that the run ends with.
-pub record ListsTables {D : Type 0} (told : Told D) (old new : Files D) (code : ℕ) (before after : Option (List ℕ)) : Type 0 where
-  -- No file is changed, however the run ends.
-  pub same : MakesAllSure told old new
-  -- Done: the files are at rest, and the lines are those of the tables that they hold.
-  pub done : code ≡ 0 → AreAtRest told new × IfRead told old (λ files. (tables : TableRows) × HoldsTables files tables × Appends (listing_of tables) before after)
-  -- No store: the files hold no tables. Nothing is written.
-  pub none : code ≡ 7 → IfRead told old HoldsNone × (after ≡ before)
-  -- What is written is a front of these lines.
-  pub front : IfRead told old (λ files. (tables : TableRows) → HoldsTables files tables → WritesFront (listing_of tables) before after)
+-- The word `init`: it makes an empty store in files that hold none.
+pub record MakesStore {K D : Type 0} (written : K → Option (List ℕ)) (faults : K → ℕ) (told : Told D) (status : Status) (old new : K) (files files' : Files D) : Type 0 where
+  pub ends : InitEnds written faults told status old new files files'
+  -- However it ends, files that hold a store are left as they are, and no other file than the first log is ever written.
+  pub kept : IfRead told files (λ bytes. HoldsSome bytes → MakesAllSure told files files')
+  pub log1 : MakesSure told files.log1 files'.log1
+  pub bodies : MakesSure told files.bodies files'.bodies
+  -- The log is read once at most.
+  pub reads : ReadsLogOnce told files files'
+
+-- How the word `tables` ends.
+abbrev pub TablesEnds : {K D : Type 0} → (K → Option (List ℕ)) → (K → ℕ) → Told D → Status → K → K → Files D → Files D → Type 0
+TablesEnds written faults told Done old new files files' = (tables : TableRows) × IfRead told files (λ bytes. HoldsTables bytes tables)
+    × AreAtRest told files' × CountsNoFault told files files' × WritesAll written faults (listing_of tables) old new
+TablesEnds written faults told NoMemory old new files files' = CountsNoFault told files files' × (new ≡ old)
+TablesEnds written faults told WriteFault old new files files' = (tables : TableRows) × IfRead told files (λ bytes. HoldsTables bytes tables)
+    × CountsNoFault told files files' × StopsWriting written faults (listing_of tables) old new
+TablesEnds written faults told StoreFault old new files files' = FaultRose told files files' × (new ≡ old)
+TablesEnds written faults told NotAStore old new files files' = IfRead told files HoldsNone × CountsNoFault told files files' × (new ≡ old)
+TablesEnds written faults told Usage old new files files' = ⊥
+TablesEnds written faults told ReadFault old new files files' = ⊥
+TablesEnds written faults told Refused old new files files' = ⊥
+TablesEnds written faults told BadScript old new files files' = ⊥
+
+-- The word `tables`: it lists the rows that the files hold.
+pub record ListsTables {K D : Type 0} (written : K → Option (List ℕ)) (faults : K → ℕ) (told : Told D) (status : Status) (old new : K) (files files' : Files D) : Type 0 where
+  pub ends : TablesEnds written faults told status old new files files'
+  -- However it ends, no file is changed, and the log is read once at most.
+  pub same : MakesAllSure told files files'
+  pub reads : ReadsLogOnce told files files'

@@ -17,13 +17,3 @@ abbrev pub command_of : List (List ℕ) → Option Command
 command_of [] = None
 command_of (word ∷ []) = command_of_word word
 command_of (word ∷ next ∷ words) = None
-
--- what is to be done with the text of the source, if that is read
-abbrev pub of_text : Option Command → Option Task
-of_text None = None
-of_text (Some (OfText task)) = Some task
-of_text (Some Init) = None
-of_text (Some Tables) = None
-
-abbrev pub task_of : List (List ℕ) → Option Task
-task_of words = of_text (command_of words)

@@ -1,9 +1,12 @@
 //! What a run writes.
 
 ghost use Rattle.std.specs.Prelude.{◌≡◌, IfOk};
+ghost use Rattle.mail_server.specs.Outside.{EndsWriting};
 ghost use Rattle.mail_server.specs.Run.{IsAnswer};
 
 use crate::status::Status;
+use crate::streams::write_all;
+use port_model::{Sink, SinkFault};
 use std::alloc::{AllocError, Global};
 
 /// What a run writes, and how it ends then.
@@ -21,4 +24,14 @@ pub(crate) fn one_line(alloc: Global, status: Status, line: &[u8]) -> Result<Ans
         status,
         lines: line.to_vec(alloc)?,
     })
+}
+
+/// Writes lines, and answers how the run ends: as is said, unless a write fails.
+pub(crate) fn end_with<K: Sink>(sink: &mut K, status: Status, lines: &[u8]) -> Status
+    ensures { EndsWriting K.written K.faults status lines.now result sink.old sink.new }
+{
+    match write_all(sink, lines) {
+        Ok(()) => status,
+        Err(SinkFault) => Status::WriteFault,
+    }
 }

@@ -2,9 +2,9 @@
 
 ghost use Rattle.std.specs.Prelude.{◌≡◌, ◌≤◌, ◌<◌, ◌+◌, ◌^◌, ◌++◌, [], OnOk, OnErr, IfOk, IsErrOf, length, take};
 ghost use Rattle.fault_counts.specs.Rose.{Rose};
-ghost use Rattle.port_model.specs.Streams.{Appends};
 ghost use Rattle.mail_server.specs.declared.streams.ReadFailure.TheVariants.{NoMemory as ReadNoMemory};
-ghost use Rattle.mail_server.specs.Run.{HasRead, IsAtEnd, ReadsUpTo, ReadsSome, WritesFront};
+ghost use Rattle.mail_server.specs.Outside.{WritesAll, StopsWriting};
+ghost use Rattle.mail_server.specs.Run.{HasRead, IsAtEnd, ReadsUpTo, ReadsSome};
 
 use port_model::{Sink, SinkFault, Source, SourceFault};
 use std::alloc::{AllocError, Global};
@@ -41,7 +41,8 @@ fn read_piece<S: Source>(
     ensures the_end { IfOk result (λ n. n ≡ 0 → 0 < length buffer.old → IsAtEnd (S.left source.new)) }
     ensures part { OnErr result (ReadsSome (length buffer.old) (S.left source.old) (S.left source.new)) }
     ensures cause { IsErrOf result ReadFailure.Fault → Rose (S.faults source.old) (S.faults source.new) }
-    ensures count { S.faults source.old ≤ S.faults source.new }
+    ensures quiet { OnOk result (S.faults source.new ≡ S.faults source.old) }
+    ensures no_memory { IsErrOf result ReadFailure.NoMemory → S.faults source.new ≡ S.faults source.old }
 {
     match source.read(buffer) {
         Ok(n) => {
@@ -65,7 +66,8 @@ fn read_pieces<S: Source>(
     ensures read { OnOk result (ReadsUpTo limit bytes.new.items (S.left source.old) (S.left source.new)) }
     ensures part { OnErr result (ReadsSome (limit + 1) (S.left source.old) (S.left source.new)) }
     ensures cause { IsErrOf result ReadFailure.Fault → Rose (S.faults source.old) (S.faults source.new) }
-    ensures count { S.faults source.old ≤ S.faults source.new }
+    ensures quiet { OnOk result (S.faults source.new ≡ S.faults source.old) }
+    ensures no_memory { IsErrOf result ReadFailure.NoMemory → S.faults source.new ≡ S.faults source.old }
 {
     'pieces: while bytes.len() <= limit {
         let room = buffer.len().min(limit + 1 - bytes.len());
@@ -86,7 +88,8 @@ pub(crate) fn read_all<S: Source>(
     ensures read { IfOk result (λ bytes. ReadsUpTo limit bytes.items (S.left source.old) (S.left source.new)) }
     ensures part { OnErr result (ReadsSome (limit + 1) (S.left source.old) (S.left source.new)) }
     ensures cause { IsErrOf result ReadFailure.Fault → Rose (S.faults source.old) (S.faults source.new) }
-    ensures count { S.faults source.old ≤ S.faults source.new }
+    ensures quiet { OnOk result (S.faults source.new ≡ S.faults source.old) }
+    ensures no_memory { IsErrOf result ReadFailure.NoMemory → S.faults source.new ≡ S.faults source.old }
 {
     let mut buffer = vec![in alloc; 0u8; READ_ROOM]?;
     let mut bytes = Vec::new(alloc);
@@ -96,10 +99,8 @@ pub(crate) fn read_all<S: Source>(
 
 /// Writes all the bytes, in as many writes as the sink needs.
 pub(crate) fn write_all<K: Sink>(sink: &mut K, bytes: &[u8]) -> Result<(), SinkFault>
-    ensures written { OnOk result (Appends bytes.now (K.written sink.old) (K.written sink.new)) }
-    ensures part { WritesFront bytes.now (K.written sink.old) (K.written sink.new) }
-    ensures cause { OnErr result (Rose (K.faults sink.old) (K.faults sink.new)) }
-    ensures count { K.faults sink.old ≤ K.faults sink.new }
+    ensures written { OnOk result (WritesAll K.written K.faults bytes.now sink.old sink.new) }
+    ensures stops { OnErr result (StopsWriting K.written K.faults bytes.now sink.old sink.new) }
 {
     let mut at = 0;
     'writes: while at < bytes.len() {

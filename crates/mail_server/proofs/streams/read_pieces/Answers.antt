@@ -1,4 +1,4 @@
-use Rattle.std.proofs.Common.{ℕ, ◌≤◌, ◌+◌, arith, rules, subst, sym, length, take, List, length-append, length-take}
+use Rattle.std.proofs.Common.{ℕ, ◌≤◌, ◌+◌, arith, rules, refl, ◌∙◌, subst, sym, length, take, List, length-append, length-take}
 use Rattle.mail_server.specs.Run.{HasRead, ReadsSome}
 use Rattle.mail_server.proofs.Transfers.{HasRead-none, HasRead-more, ReadsSome-more, OnErr-always}
 use Rattle.mail_server.proofs.streams.read_pieces.Goals as goal
@@ -13,7 +13,7 @@ pub pieces-init : goal.pieces-init
 pieces-init g c = record {
   within = search rules;
   taken = subst (λ (bytes : List ℕ). HasRead bytes (g.S.Source.left c.args.source.now) (g.S.Source.left c.args.source.now)) (sym c.requires.empty) (HasRead-none (g.S.Source.left c.args.source.now));
-  count = omega arith;
+  quiet = refl;
 }
 
 pub pieces-preserved : goal.pieces-preserved
@@ -25,5 +25,5 @@ pieces-preserved g c =
       within = omega (arith, added, c.in_ok-read_piece.ensures.within, length-take c.min-room.result c.pieces.buffer, c.pieces.invariant.within);
       taken = subst (λ (bytes : List ℕ). HasRead bytes (g.S.Source.left c.args.source.now) (g.S.Source.left c.read_piece.new.source)) (sym c.in_ok-read_piece.ensures.added)
           (HasRead-more c.pieces.bytes.items (take c.in_ok-read_piece.field-0 c.read_piece.new.buffer) (g.S.Source.left c.args.source.now) (g.S.Source.left c.pieces.source) (g.S.Source.left c.read_piece.new.source) c.pieces.invariant.taken c.in_ok-read_piece.ensures.taken);
-      count = omega (arith, c.pieces.invariant.count, c.read_piece.ensures.count);
+      quiet = c.in_ok-read_piece.ensures.quiet ∙ c.pieces.invariant.quiet;
     }
