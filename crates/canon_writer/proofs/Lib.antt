@@ -14,6 +14,5 @@ pub mod CountLemmas
 pub mod PieceLemmas
 pub mod PrintSizeLemmas
 pub mod WrapperLemmas
-pub mod ArrivalLemmas
 pub mod LawLemmas
 pub mod Examples

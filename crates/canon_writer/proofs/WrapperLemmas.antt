@@ -21,7 +21,7 @@ use Rattle.header_reader.specs.Values.{typed, or_text}
 use Rattle.mime_reader.specs.declared.kinds.BodyKind.TheVariants.{Multipart, Single}
 use Rattle.mime_reader.specs.ContentTypes.{parameters_behind}
 use Rattle.mime_reader.specs.Kinds.{body_kind, boundary_of, type_of, has_encoding}
-use Rattle.mime_reader.specs.Reading.{IsMessage, most_levels, most_nodes, IsGoodField, AreGoodFields}
+use Rattle.mime_reader.specs.Reading.{HasGoodFields, IsMessage, most_levels, most_nodes}
 use Rattle.mime_reader.specs.Arrival.{arrival}
 use Rattle.mime_reader.specs.Wrapping.{reason_text, text_field, notice, attachment, wrapper_fields, wrapper}
 use Rattle.canon_writer.specs.Printing.{header_lines, print, print_parts, HeadersFit}
@@ -31,93 +31,10 @@ use Rattle.canon_writer.proofs.DelimiterLemmas.{boundary_facts}
 use Rattle.canon_writer.proofs.SizeLemmas.{size_within}
 use Rattle.canon_writer.proofs.PrintLemmas.{Owed, Bound, IsPrint, IsBodyPrint, headed, base64_print, multi_print, message_of_print}
 
--- Fields
-
-text_good : (name text : List ℕ) → kind_of name ≡ Unstructured → IsGood name text → IsGoodField (text_field name text)
-text_good name text kind good = record {
-  raw = record { name = name; value = text };
-  is_good = good;
-  read = λ i. record { name = name; value = or_text text (typed (sym kind i) text) };
-}
-
-subject_kind : kind_of (codes "Subject") ≡ Unstructured
-unfolding kind_of
-subject_kind = refl
-
-version_kind : kind_of (codes "MIME-Version") ≡ Unstructured
-unfolding kind_of
-version_kind = refl
-
-type_kind : kind_of (codes "Content-Type") ≡ Unstructured
-unfolding kind_of
-type_kind = refl
-
-encoding_kind : kind_of (codes "Content-Transfer-Encoding") ≡ Unstructured
-unfolding kind_of
-encoding_kind = refl
-
-disposition_kind : kind_of (codes "Content-Disposition") ≡ Unstructured
-unfolding kind_of
-disposition_kind = refl
-
-date_kind : kind_of (codes "Date") ≡ DateTime
-unfolding kind_of
-date_kind = refl
-
-subject_good : IsGoodField (text_field (codes "Subject") (codes "Unreadable message"))
-subject_good =
-    text_good (codes "Subject") (codes "Unreadable message") subject_kind
-    (record { some = refl; names = refl; no_dashes = refl; is_trimmed = refl; no_zero = refl; no_lf = refl; no_cr = refl })
-
-version_good : IsGoodField (text_field (codes "MIME-Version") (codes "1.0"))
-version_good =
-    text_good (codes "MIME-Version") (codes "1.0") version_kind
-    (record { some = refl; names = refl; no_dashes = refl; is_trimmed = refl; no_zero = refl; no_lf = refl; no_cr = refl })
-
-multipart_good : IsGoodField (text_field (codes "Content-Type") (codes "multipart/mixed; boundary=\"wrapped\""))
-multipart_good =
-    text_good (codes "Content-Type") (codes "multipart/mixed; boundary=\"wrapped\"") type_kind
-    (record { some = refl; names = refl; no_dashes = refl; is_trimmed = refl; no_zero = refl; no_lf = refl; no_cr = refl })
-
-plain_good : IsGoodField (text_field (codes "Content-Type") (codes "text/plain; charset=us-ascii"))
-plain_good =
-    text_good (codes "Content-Type") (codes "text/plain; charset=us-ascii") type_kind
-    (record { some = refl; names = refl; no_dashes = refl; is_trimmed = refl; no_zero = refl; no_lf = refl; no_cr = refl })
-
-octets_good : IsGoodField (text_field (codes "Content-Type") (codes "application/octet-stream"))
-octets_good =
-    text_good (codes "Content-Type") (codes "application/octet-stream") type_kind
-    (record { some = refl; names = refl; no_dashes = refl; is_trimmed = refl; no_zero = refl; no_lf = refl; no_cr = refl })
-
-encoding_good : IsGoodField (text_field (codes "Content-Transfer-Encoding") (codes "base64"))
-encoding_good =
-    text_good (codes "Content-Transfer-Encoding") (codes "base64") encoding_kind
-    (record { some = refl; names = refl; no_dashes = refl; is_trimmed = refl; no_zero = refl; no_lf = refl; no_cr = refl })
-
-disposition_good : IsGoodField (text_field (codes "Content-Disposition") (codes "attachment; filename=original"))
-disposition_good =
-    text_good (codes "Content-Disposition") (codes "attachment; filename=original") disposition_kind
-    (record { some = refl; names = refl; no_dashes = refl; is_trimmed = refl; no_zero = refl; no_lf = refl; no_cr = refl })
-
--- What the print of the date of a moment owes.
-pub record Arrives : Type 0 where
-  pub read : (now : ℕ) → sent_date (arrival now).text ≡ Some (arrival now)
+-- What is known of the wrappers of all bytes.
+pub record AreKnown : Type 0 where
   pub stands : (now : ℕ) → IsFieldValue (arrival now).text
-
-date_good : Arrives → (now : ℕ) → IsGoodField (record { name = codes "Date"; value = Date (arrival now) })
-date_good dates now =
-    let text = (arrival now).text in
-    let f = dates.stands now in
-    let typed_date : or_text text (typed (kind_of (codes "Date")) text) ≡ Date (arrival now) =
-    ap (λ k. or_text text (typed k text)) date_kind ∙ ap (λ d. or_text text (option_map Date d)) (dates.read now) in
-    record {
-      raw = record { name = codes "Date"; value = text };
-      is_good = record { some = refl; names = refl; no_dashes = refl; is_trimmed = f.is_trimmed; no_zero = f.no_zero; no_lf = f.no_lf; no_cr = f.no_cr };
-      read = λ i. record { name = codes "Date"; value = sym typed_date i };
-    }
-
-wrapper_good : Arrives → (now : ℕ) → AreGoodFields (wrapper_fields now)
-wrapper_good dates now = (date_good dates now, (subject_good, (version_good, (multipart_good, tt))))
+  pub good : (bytes : List ℕ) (reason : Reason) (now : ℕ) → HasGoodFields (wrapper bytes reason now)
 
 -- Kinds
 
@@ -181,13 +98,14 @@ wrapper_nodes : (bytes : List ℕ) (reason : Reason) (now : ℕ) → nodes (wrap
 unfolding wrapper
 wrapper_nodes bytes reason now = omega arith
 
-module _ (laws : Owed) (dates : Arrives) where
+module _ (laws : Owed) (known : AreKnown) where
   notice_print : (es : List (List ℕ)) (reason : Reason) → IsPrint es false (print (notice reason)) (notice reason)
+  unfolding wrapper
   notice_print es reason =
       let text = notice_text reason in
       let fields = text_field (codes "Content-Type") (codes "text/plain; charset=us-ascii") ∷ [] in
       let lf = notice_no_lf reason in
-      headed laws es false fields (leaf Plain text) text (is_header laws.values fields (plain_good, tt)) (record {
+      headed laws es false fields (leaf Plain text) text (is_header laws.values fields (known.good [] reason 0).1.0.0) (record {
         crlf = line_is_crlf laws.lines text lf;
         inside =
             subst (AreInside es) (sym (one_line laws.lines text lf))
@@ -196,9 +114,10 @@ module _ (laws : Owed) (dates : Arrives) where
       })
 
   attachment_print : (es : List (List ℕ)) (bytes : List ℕ) → IsBytes bytes → IsPrint es false (print (attachment bytes)) (attachment bytes)
+  unfolding wrapper
   attachment_print es bytes are =
       let fields = attachment_fields in
-      headed laws es false fields (leaf Base64 bytes) (printed64 bytes) (is_header laws.values fields (octets_good, (encoding_good, (disposition_good, tt))))
+      headed laws es false fields (leaf Base64 bytes) (printed64 bytes) (is_header laws.values fields (known.good bytes ZeroByte 0).1.1.0.0)
       (base64_print laws es (body_kind false fields) bytes are attachment_kind)
 
   wrapper_print : (bytes : List ℕ) (reason : Reason) (now : ℕ) → IsBytes bytes → IsPrint [] false (print (wrapper bytes reason now)) (wrapper bytes reason now)
@@ -211,13 +130,13 @@ module _ (laws : Owed) (dates : Arrives) where
       let parts =
       multi_print laws [] (body_kind false fields) b false trees (wrapper_kind now) refl tt bound
       (notice_print (b ∷ []) reason, (attachment_print (b ∷ []) bytes are, tt)) in
-      headed laws [] false fields (multi trees) (print_parts (boundary_of fields) trees) (is_header laws.values fields (wrapper_good dates now))
+      headed laws [] false fields (multi trees) (print_parts (boundary_of fields) trees) (is_header laws.values fields (known.good bytes reason now).0)
       (subst (λ x. IsBodyPrint [] (body_kind false fields) (print_parts x trees) (multi trees)) (sym (laws.boundary false false fields b (wrapper_kind now))) parts)
 
   wrapper_fits : (bytes : List ℕ) (reason : Reason) (now : ℕ) → HeadersFit (wrapper bytes reason now)
   unfolding wrapper
   wrapper_fits bytes reason now =
-      let f = dates.stands now in (
+      let f = known.stands now in (
         omega (arith, f.size, size_within (wrapper_fields now)),
         ((notice_fits, tt), ((attachment_fits, tt), tt)),
       )

@@ -24,7 +24,7 @@ fn split_word(text: &[u8]) -> (&[u8], &[u8])
 }
 
 /// Appends a field in its lines.
-pub(crate) fn append_field(out: &mut Vec<u8>, name: &[u8], value: &[u8]) -> Result<(), AllocError>
+pub(crate) fn append_lines(out: &mut Vec<u8>, name: &[u8], value: &[u8]) -> Result<(), AllocError>
     ensures { OnOk result (out.new.items ≡ out.old.items ++ ended (field_lines name.now value.now)) }
 {
     out.extend_from_slice(name)?;

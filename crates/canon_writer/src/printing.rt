@@ -4,14 +4,15 @@ ghost use Rattle.mime_tree.specs.Contents.{content_of, trees_of};
 ghost use Rattle.mime_reader.specs.Kinds.{boundary_of as boundary_of_fields};
 ghost use Rattle.mime_reader.specs.Bodies.{delimiter};
 ghost use Rattle.canon_writer.specs.Folding.{field_lines};
-ghost use Rattle.canon_writer.specs.Printing.{ended, print, print_body, print_header, print_leaf, print_parts, value_text};
+ghost use Rattle.canon_writer.specs.Printing.{ended, print, print_body, print_header, print_leaf, print_parts, value_text as value_text_of};
 ghost use Rattle.canon_writer.specs.Laws.{PrintLaws};
 
-use crate::folding::append_field;
+use crate::folding::append_lines;
+use crate::sizes::{printed_body_size, printed_header_size, printed_size};
 use address_grammar::{law_addresses, law_ids, print as print_addresses, print_ids};
 use date_grammar::{law_dates, law_values};
 use mail_text::law_lines;
-use mime_reader::{law_reading, parameter_value, type_of};
+use mime_reader::{law_reading, law_wrapping, parameter_value, type_of};
 use mime_tree::{Body, Encoding, Field, Message, Value};
 use std::alloc::{AllocError, Global};
 use transfer_codec::{append64, law_base64};
@@ -21,7 +22,7 @@ use transfer_codec::{append64, law_base64};
 pub fn write_message(alloc: Global, message: &Message) -> Result<Vec<u8>, AllocError>
     ensures { IfOk result (λ v. v.items ≡ print message.now) }
 {
-    let mut out = Vec::new(alloc);
+    let mut out = Vec::with_capacity(alloc, printed_size(message))?;
     append_message(alloc, &mut out, message)?;
     Ok(out)
 }
@@ -30,7 +31,7 @@ pub fn write_message(alloc: Global, message: &Message) -> Result<Vec<u8>, AllocE
 pub fn write_header(alloc: Global, fields: &[Field]) -> Result<Vec<u8>, AllocError>
     ensures { IfOk result (λ v. v.items ≡ print_header fields.now) }
 {
-    let mut out = Vec::new(alloc);
+    let mut out = Vec::with_capacity(alloc, printed_header_size(fields))?;
     append_header(alloc, &mut out, fields)?;
     Ok(out)
 }
@@ -39,7 +40,7 @@ pub fn write_header(alloc: Global, fields: &[Field]) -> Result<Vec<u8>, AllocErr
 pub fn write_body(alloc: Global, body: &Body, boundary: &[u8]) -> Result<Vec<u8>, AllocError>
     ensures { IfOk result (λ v. v.items ≡ print_body boundary.now (content_of body.now)) }
 {
-    let mut out = Vec::new(alloc);
+    let mut out = Vec::with_capacity(alloc, printed_body_size(body, boundary))?;
     append_body(alloc, &mut out, body, boundary)?;
     Ok(out)
 }
@@ -48,24 +49,34 @@ fn append_header(alloc: Global, out: &mut Vec<u8>, fields: &[Field]) -> Result<(
     ensures { OnOk result (out.new.items ≡ out.old.items ++ print_header fields.now) }
 {
     for field in fields {
-        append(alloc, out, field)?;
+        append_field(alloc, out, field)?;
     }
     let empty_line = b"\r\n";
     out.extend_from_slice(empty_line)
 }
 
-fn append(alloc: Global, out: &mut Vec<u8>, field: &Field) -> Result<(), AllocError>
-    ensures { OnOk result (out.new.items ≡ out.old.items ++ ended (field_lines field.now.name (value_text field.now.value))) }
+/// Appends a field as it is printed, in lines of at most 78 bytes where its words allow it (RFC 5322 §2.1.1), each with its CRLF.
+/// A header is its fields one behind another, and an empty line; so is a list of some of them.
+pub fn append_field(alloc: Global, out: &mut Vec<u8>, field: &Field) -> Result<(), AllocError>
+    ensures { OnOk result (out.new.items ≡ out.old.items ++ ended (field_lines field.now.name (value_text_of field.now.value))) }
 {
     let name = field.name.as_slice();
     match &field.value {
-        Value::Text(value) => append_field(out, name, value.as_slice()),
-        Value::Addresses(items) => {
-            let text = print_addresses(alloc, items.as_slice())?;
-            append_field(out, name, &text)
-        }
-        Value::Date(date) => append_field(out, name, &date.text),
-        Value::Ids(ids) => append_field(out, name, &print_ids(alloc, ids.as_slice())?),
+        Value::Text(value) => append_lines(out, name, value.as_slice()),
+        value => append_lines(out, name, &value_text(alloc, value)?),
+    }
+}
+
+/// The canonical text of a value, unfolded: addresses with `, ` between them, a date with all its parts, ids with one space between
+/// them, and any other value as it is.
+pub fn value_text(alloc: Global, value: &Value) -> Result<Vec<u8>, AllocError>
+    ensures { IfOk result (λ v. v.items ≡ value_text_of value.now) }
+{
+    match value {
+        Value::Text(text) => text.as_slice().to_vec(alloc),
+        Value::Addresses(items) => print_addresses(alloc, items.as_slice()),
+        Value::Date(date) => date.text.to_vec(alloc),
+        Value::Ids(ids) => print_ids(alloc, ids.as_slice()),
     }
 }
 
@@ -161,4 +172,5 @@ pub fn law_print()
     law_values();
     law_base64();
     law_reading();
+    law_wrapping();
 }

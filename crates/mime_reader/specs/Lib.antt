@@ -7,6 +7,7 @@ pub mod Wrapping
 pub mod Weights
 pub mod Found
 pub mod ValueSizes
+pub mod Parameters
 pub mod Cutting
 pub mod Steps
 pub mod Laws

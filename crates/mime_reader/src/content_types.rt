@@ -76,7 +76,7 @@ pub(crate) fn behind(text: &[u8], size: usize) -> &[u8]
     &text[size..]
 }
 
-fn parameters(alloc: Global, text: &[u8]) -> Result<Items<Parameter>, AllocError>
+pub(crate) fn parameters(alloc: Global, text: &[u8]) -> Result<Items<Parameter>, AllocError>
     ensures { IfOk result (λ found. found ≡ parameters_of text.now) }
 {
     let mut out = Vec::new(alloc);

@@ -13,3 +13,5 @@ mod mail_text_tests;
 mod transfer_codec_tests;
 #[cfg(test)]
 mod word_codec_tests;
+#[cfg(test)]
+mod canon;

@@ -2,7 +2,7 @@ use Rattle.std.proofs.Common.{◌≡◌, ◌++◌, ◌∷◌, [], ◌-◌, lengt
 use Rattle.canon_writer.specs.Folding.{words, words_behind, line_width}
 use Rattle.canon_writer.specs.Printing.{ended}
 use Rattle.canon_writer.proofs.FoldLemmas.{some_value, some_of}
-use Rattle.canon_writer.proofs.folding.append_field.Goals as goal
+use Rattle.canon_writer.proofs.folding.append_lines.Goals as goal
 
 pub returns : goal.returns
 returns c =
