@@ -122,12 +122,21 @@ iVBORw0KGgo=
     let expected =
         b"From: \"Doe, Jane\" <jane@example.org>\r\nTo: Alice <alice@example.com>\r\nSubject: =?utf-8?Q?Gr=C3=BC=C3=9Fe?=\r\nDate: Tue, 01 Jul 2003 10:52:37 +0200\r\nMessage-ID: <m1@example.org>\r\nMIME-Version: 1.0\r\nContent-Type: multipart/mixed; boundary=\"b1\"\r\n\r\n--b1\r\nContent-Type: text/plain; charset=utf-8; format=flowed\r\nContent-Transfer-Encoding: quoted-printable\r\n\r\nGr=C3=BC=C3=9Fe\r\n--b1\r\nContent-Type: image/png; name=\"p.png\"\r\nContent-Transfer-Encoding: base64\r\nContent-Disposition: attachment; filename=\"p.png\"\r\n\r\niVBORw0KGgo=\r\n\r\n--b1--\r\n";
     let message = read_message(alloc, text)?;
-    assert_eq!(rt; write_message(alloc, &message)?.as_slice(), expected.as_slice());
+    assert_eq!(rt;
+        write_message(alloc, &message)?.as_slice(),
+        expected.as_slice()
+    );
     assert_eq!(rt; printed_size(&message), 526);
-    assert_eq!(rt; write_header(alloc, &message.fields)?.as_slice(), &expected[..243]);
+    assert_eq!(rt;
+        write_header(alloc, &message.fields)?.as_slice(),
+        &expected[..243]
+    );
     assert_eq!(rt; printed_header_size(&message.fields), 243);
     let body = write_body(alloc, &message.body, b"b2")?;
-    assert!(rt; body.as_slice().starts_with(b"--b2\r\nContent-Type: text/plain"));
+    assert!(rt;
+        body.as_slice()
+            .starts_with(b"--b2\r\nContent-Type: text/plain")
+    );
     assert!(rt; body.as_slice().ends_with(b"\r\n\r\n--b2--\r\n"));
     assert_eq!(rt; printed_body_size(&message.body, b"b2"), 283);
     let Body::Multi(parts) = &message.body else {
@@ -143,7 +152,8 @@ iVBORw0KGgo=
 #[test]
 fn values(rt: HostRuntime) -> Result<(), Fail> {
     let alloc = rt.alloc();
-    let text = b"Subject: a\n  b\nTo: (Ann) ann@x.org,\n \"B C\" <b@x.org>\nDate: 1 Jul 03 10:52 +0200\nReferences: <a>  <b>\n\n";
+    let text =
+        b"Subject: a\n  b\nTo: ann@x.org (Ann),\n \"B C\" <b@x.org>\nDate: 1 Jul 03 10:52 +0200\nReferences: <a>  <b>\n\n";
     let message = read_message(alloc, text)?;
     let expected = [
         b"a  b".as_slice(),
@@ -158,7 +168,10 @@ fn values(rt: HostRuntime) -> Result<(), Fail> {
     }
     let mut out = b"BODY ".to_vec(alloc)?;
     append_field(alloc, &mut out, &message.fields[1])?;
-    assert_eq!(rt; out.as_slice(), b"BODY To: Ann <ann@x.org>, B C <b@x.org>\r\n".as_slice());
+    assert_eq!(rt;
+        out.as_slice(),
+        b"BODY To: Ann <ann@x.org>, B C <b@x.org>\r\n".as_slice()
+    );
     Ok(())
 }
 
@@ -166,7 +179,7 @@ fn values(rt: HostRuntime) -> Result<(), Fail> {
 fn a_wrapper(rt: HostRuntime) -> Result<(), Fail> {
     let alloc = rt.alloc();
     let message = wrap(alloc, b"A: b\r\n\r\n\0", Reason::ZeroByte, 0)?;
-    assert_eq!(rt; printed_size(&message), 466);
+    assert_eq!(rt; printed_size(&message), 420);
     let text = write_message(alloc, &message)?;
     let expected =
         b"Date: Thu, 01 Jan 1970 00:00:00 +0000\r\nSubject: Unreadable message\r\nMIME-Version: 1.0\r\nContent-Type: multipart/mixed; boundary=\"wrapped\"\r\n\r\n--wrapped\r\nContent-Type: text/plain; charset=us-ascii\r\n\r\nThe attached message could not be read: a zero byte.\r\n--wrapped\r\nContent-Type: application/octet-stream\r\nContent-Transfer-Encoding: base64\r\nContent-Disposition: attachment; filename=original\r\n\r\nQTogYg0KDQoA\r\n\r\n--wrapped--\r\n";
