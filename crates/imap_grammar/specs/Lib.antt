@@ -1,2 +1,10 @@
 pub mod Flags
 pub mod StatusItems
+pub mod Readings
+pub mod Classes
+pub mod Words
+pub mod Spellings
+pub mod Strings
+pub mod Verbs
+pub mod Session
+pub mod Commands

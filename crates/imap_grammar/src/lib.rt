@@ -1,8 +1,19 @@
 //! The commands of IMAP (RFC 3501 §6, §9), read exactly where they are ones.
 #![tactic(auto)]
 
+mod classes;
+mod commands;
 mod flags;
 mod items;
+mod parsing;
+mod reader;
+mod session;
+mod spellings;
+mod strings;
+mod verbs;
+mod words;
 
+pub use commands::{Bad, Command, ParseFault, Tagged};
 pub use flags::Flag;
 pub use items::StatusItem;
+pub use parsing::parse;

@@ -1,0 +1,61 @@
+-- What a unit is: a command with its tag, or none, with a tag or without.
+use Rattle.std.specs.Prelude.{◌≡◌, ℕ, List, Option, Some, None, Result, Ok, Err}
+use Rattle.imap_grammar.specs.declared.commands.Command.{Command}
+use Rattle.imap_grammar.specs.declared.commands.Command.TheVariants.{Capability, Noop, Logout, Check, Close, Expunge}
+use Rattle.imap_grammar.specs.declared.commands.Tagged.{Tagged}
+use Rattle.imap_grammar.specs.declared.commands.Bad.{Bad}
+use Rattle.imap_grammar.specs.declared.commands.Bad.TheVariants.{WithTag, NoTag}
+use Rattle.imap_grammar.specs.declared.commands.ParseFault.{ParseFault}
+use Rattle.imap_grammar.specs.declared.commands.ParseFault.TheVariants as faults
+use Rattle.imap_grammar.specs.declared.classes.Class.TheVariants.{Tag}
+use Rattle.imap_grammar.specs.declared.verbs.Verb.{Verb}
+use Rattle.imap_grammar.specs.declared.verbs.Verb.TheVariants as verb
+use Rattle.imap_grammar.specs.Readings.{Reading, Outcome, ◌>>=◌, ◌>>◌, pure, space}
+use Rattle.imap_grammar.specs.Strings.{some}
+use Rattle.imap_grammar.specs.Words.{keyword}
+use Rattle.imap_grammar.specs.Verbs.{verbs}
+use Rattle.imap_grammar.specs.Session.{alone, login, authenticate}
+
+-- What stands behind the name of a command, up to its end.
+abbrev pub arguments : Verb → Reading Command
+arguments verb.Capability = alone Capability
+arguments verb.Noop = alone Noop
+arguments verb.Logout = alone Logout
+arguments verb.Check = alone Check
+arguments verb.Close = alone Close
+arguments verb.Expunge = alone Expunge
+arguments verb.Login = login
+arguments verb.Authenticate = authenticate
+
+-- A command without its tag.
+unfoldable pub command : Reading Command
+command = do
+  name ← keyword verbs
+  arguments name
+
+-- A tag, and the space behind it.
+unfoldable pub tag : Reading (List ℕ)
+tag = do
+  name ← some Tag
+  space
+  pure name
+
+-- what a unit with this tag is
+abbrev pub tagged : List ℕ → Outcome Command → Result Tagged Bad
+tagged name None = Err (WithTag name)
+tagged name (Some read) = Ok (record { tag = name; command = read.0 })
+
+-- what a unit is by what it begins with
+abbrev pub begun_with : Outcome (List ℕ) → Result Tagged Bad
+begun_with None = Err NoTag
+begun_with (Some read) = tagged read.0 (command read.1)
+
+-- What a unit is.
+unfoldable pub meaning : List ℕ → Result Tagged Bad
+meaning unit = begun_with (tag unit)
+
+-- An answer tells what a unit is, unless memory ran out.
+abbrev pub Tells : Result Tagged Bad → Result Tagged ParseFault → Type 0
+Tells meaning (Ok command) = meaning ≡ Ok command
+Tells meaning (Err (faults.Bad bad)) = meaning ≡ Err bad
+Tells meaning (Err faults.NoMemory) = Unit {0}

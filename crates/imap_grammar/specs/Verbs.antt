@@ -1,0 +1,16 @@
+-- The names of commands.
+use Rattle.std.specs.Prelude.{ℕ, List, [], ◌∷◌, codes}
+use Rattle.imap_grammar.specs.declared.verbs.Verb.{Verb}
+use Rattle.imap_grammar.specs.declared.verbs.Verb.TheVariants.{Capability, Noop, Logout, Check, Close, Expunge, Login, Authenticate}
+
+abbrev pub verbs : List (List ℕ × Verb)
+verbs =
+    (codes "CAPABILITY", Capability)
+    ∷ (codes "NOOP", Noop)
+    ∷ (codes "LOGOUT", Logout)
+    ∷ (codes "CHECK", Check)
+    ∷ (codes "CLOSE", Close)
+    ∷ (codes "EXPUNGE", Expunge)
+    ∷ (codes "LOGIN", Login)
+    ∷ (codes "AUTHENTICATE", Authenticate)
+    ∷ []

@@ -1,0 +1,51 @@
+//! What commands are.
+use octets::Octets;
+
+/// A command with its arguments (RFC 3501 §6).
+#[derive(Debug, Drop)]
+pub enum Command {
+    Capability,
+    Noop,
+    Logout,
+    Check,
+    Close,
+    Expunge,
+    Login { name: Octets, password: Octets },
+    /// The mechanism, as it is written.
+    Authenticate(Octets),
+}
+
+/// A command with the tag that its answer is told with.
+#[derive(Debug, Drop)]
+pub struct Tagged {
+    pub tag: Octets,
+    pub command: Command,
+}
+
+/// A unit that is no command.
+#[derive(Debug, Drop)]
+pub enum Bad {
+    /// It begins with a tag and a space.
+    WithTag(Octets),
+    NoTag,
+}
+
+/// Why no command was read.
+#[derive(Debug, Drop)]
+pub enum ParseFault {
+    NoMemory,
+    Bad(Bad),
+}
+
+impl From<std::alloc::AllocError> for ParseFault {
+    ghost use Rattle.std.specs.Prelude.{◌≡◌};
+    ghost use Rattle.imap_grammar.specs.declared.commands.ParseFault.TheVariants.{NoMemory};
+
+    ghost from_gives = { λ _ fault. fault ≡ NoMemory };
+
+    fn from(_: std::alloc::AllocError) -> ParseFault
+        ensures { result ≡ NoMemory }
+    {
+        ParseFault::NoMemory
+    }
+}

@@ -1,0 +1,76 @@
+//! Units as commands.
+ghost use Rattle.imap_grammar.specs.Commands as spec;
+ghost use Rattle.imap_grammar.specs.Commands.{Tells};
+ghost use Rattle.imap_grammar.specs.Readings.{Reads};
+
+use crate::classes::Class;
+use crate::commands::{Bad, Command, ParseFault, Tagged};
+use crate::reader::{Fault, Reader};
+use crate::session::{alone, authenticate, login};
+use crate::spellings::Spelling;
+use crate::strings::some;
+use crate::verbs::{Verb, read_verb};
+use std::alloc::Global;
+
+/// Reads a unit as a command with its tag. A unit is a line with its CRLF, or lines with literals between them, each of which
+/// `{n}` and CRLF announce (RFC 3501 §2.2, §4.3); it is the unit of a command as `imap_lexer` cuts it.
+#[tactic(auto, unfolding(crate::specs::Commands::meaning))]
+pub fn parse(alloc: Global, unit: &[u8]) -> Result<Tagged, ParseFault>
+    ensures { Tells (spec.meaning unit.now) result }
+{
+    let mut reader = Reader::new(unit);
+    match tag(&mut reader) {
+        Ok(name) => tagged(alloc, &mut reader, &name),
+        Err(Fault::NoReading) => Err(ParseFault::Bad(Bad::NoTag)),
+        Err(Fault::NoMemory) => Err(ParseFault::NoMemory),
+    }
+}
+
+/// A tag, and the space behind it.
+#[tactic(auto, unfolding(crate::specs::Commands::tag))]
+fn tag<'a>(reader: &mut Reader<'a>) -> Result<Spelling<'a>, Fault>
+    ensures { Reads (spec.tag reader.old) result reader.new }
+{
+    let name = some(reader, Class::Tag)?;
+    reader.byte(b' ')?;
+    Ok(name)
+}
+
+/// A command behind its tag.
+fn tagged(alloc: Global, reader: &mut Reader<'_>, name: &Spelling<'_>) -> Result<Tagged, ParseFault>
+    ensures { Tells (spec.tagged name.now (spec.command reader.old)) result }
+{
+    match command(alloc, reader) {
+        Ok(command) => Ok(Tagged {
+            tag: name.to_octets(alloc)?,
+            command,
+        }),
+        Err(Fault::NoReading) => Err(ParseFault::Bad(Bad::WithTag(name.to_octets(alloc)?))),
+        Err(Fault::NoMemory) => Err(ParseFault::NoMemory),
+    }
+}
+
+/// A command without its tag.
+#[tactic(auto, unfolding(crate::specs::Commands::command))]
+fn command(alloc: Global, reader: &mut Reader<'_>) -> Result<Command, Fault>
+    ensures { Reads (spec.command reader.old) result reader.new }
+{
+    let name = read_verb(reader)?;
+    arguments(alloc, reader, name)
+}
+
+/// What stands behind the name of a command.
+fn arguments(alloc: Global, reader: &mut Reader<'_>, name: Verb) -> Result<Command, Fault>
+    ensures { Reads (spec.arguments name reader.old) result reader.new }
+{
+    match name {
+        Verb::Capability => alone(reader, Command::Capability),
+        Verb::Noop => alone(reader, Command::Noop),
+        Verb::Logout => alone(reader, Command::Logout),
+        Verb::Check => alone(reader, Command::Check),
+        Verb::Close => alone(reader, Command::Close),
+        Verb::Expunge => alone(reader, Command::Expunge),
+        Verb::Login => login(alloc, reader),
+        Verb::Authenticate => authenticate(alloc, reader),
+    }
+}

@@ -1,0 +1,34 @@
+//! Keywords.
+ghost use Rattle.std.specs.Prelude.{◌≡◌};
+ghost use Rattle.imap_grammar.specs.Words.{entries, keyword as keyword_of, named as named_of};
+ghost use Rattle.imap_grammar.specs.Readings.{Reads};
+
+use crate::classes::Class;
+use crate::reader::{Fault, Reader};
+use mail_text::same;
+
+/// The entry of a table that has the name, in any case.
+fn named<T: Copy>(table: &[(&'static [u8], T)], word: &[u8]) -> Option<T>
+    ensures { result ≡ named_of (entries table.now) word.now }
+{
+    for (name, entry) in table {
+        if same(word, name) {
+            return Some(*entry);
+        }
+    }
+    None
+}
+
+/// A keyword of a table.
+#[tactic(auto, unfolding(crate::specs::Words::keyword))]
+pub(crate) fn keyword<T: Copy>(
+    reader: &mut Reader<'_>,
+    table: &[(&'static [u8], T)],
+) -> Result<T, Fault>
+    ensures { Reads (keyword_of (entries table.now) reader.old) result reader.new }
+{
+    match named(table, reader.front(Class::Word)) {
+        Some(entry) => Ok(entry),
+        None => Err(Fault::NoReading),
+    }
+}
