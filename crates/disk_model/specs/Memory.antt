@@ -22,6 +22,10 @@ pub record Memory : Type 0 where
   -- whether it found no memory for a change
   pub starved : Bool
 
+-- an empty disk that never fails
+abbrev pub empty_disk : Memory
+empty_disk = record { first = []; changes = []; calls = 0; fails = []; faults = 0; reads = 0; starved = false }
+
 -- what a read gives, the bytes of the last sync, and the ranges written since, the last of them first
 pub record State : Type 0 where
   pub reading : List ℕ
@@ -81,6 +85,8 @@ pub record Attempt (old new : Memory) (change : Change) (ends_too_far : Bool) (r
   pub listed : is_to_fail old ≡ true → IsErr result
   pub too_far : ends_too_far ≡ true → IsErr result
   pub else_starved : IsErr result → is_to_fail old ≡ false → ends_too_far ≡ false → new.starved ≡ true
+  -- once it found no memory, it says so for good
+  pub stays_starved : old.starved ≡ true → new.starved ≡ true
 
 -- the last sync has the byte at this place, and it wasn't written since
 abbrev pub is_kept : List ℕ → List Written → ℕ → Bool

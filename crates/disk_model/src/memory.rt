@@ -1,12 +1,12 @@
 //! A disk in memory. It keeps what was done to it, and so can show what a crash at any moment might have left.
 
-ghost use Rattle.std.specs.Prelude.{◌≡◌, ◌≤◌, ◌<◌, ◌+◌, ◌-◌, ◌^◌, ◌↔◌, [], ◌∷◌, ◌++◌, List, ℕ, length, min, true, false, option_map, IfOk, OnOk, OnErr, IsErr, IsNone, IfSome, nat_le};
+ghost use Rattle.std.specs.Prelude.{◌≡◌, ◌≤◌, ◌<◌, ◌+◌, ◌-◌, ◌^◌, ◌↔◌, ◌⊎◌, [], ◌∷◌, ◌++◌, List, ℕ, length, min, true, false, option_map, IfOk, OnOk, OnErr, IsErr, IsNone, IfSome, nat_le};
 ghost use Rattle.disk_model.specs.Told.{IfTold, SameTold};
 ghost use Rattle.disk_model.specs.Images.{Only, Torn, Tears, TearsAll, IsImage, TornThrough};
 ghost use Rattle.disk_model.specs.Calls.{overwritten, GivesBytes, HasCause, LeavesAlone, Elapses};
 
 use crate::replaying::{filled, overwrite, replay};
-use crate::{Disk, DiskFault};
+use crate::{Disk, DiskFault, Files};
 use fault_counts::raised;
 use octets::Octets;
 use std::alloc::{AllocError, Global};
@@ -35,7 +35,7 @@ pub fn torn_writes_leave_the_images()
 
 /// A disk in memory, with faults by the number of the call.
 ///
-/// A write that fails by its number is done all the same, and a crash may tear it like any other.
+/// A write that fails by its number is done in full and recorded all the same, so that a crash may tear it like any other.
 #[derive(Drop)]
 pub struct MemoryDisk {
     alloc: Global,
@@ -183,7 +183,9 @@ impl MemoryDisk {
 
     fn attempt_write(&mut self, at: u64, bytes: &[u8]) -> Result<(), DiskFault>
         requires { at ≤ length (state_of self.old).reading }
-        ensures { Attempt self.old self.new (Change.Write at bytes.now) (nat_le (2 ^ 63) (at + length bytes.now)) result }
+        ensures attempt { Attempt self.old self.new (Change.Write at bytes.now) (nat_le (2 ^ 63) (at + length bytes.now)) result }
+        ensures in_full { at + length bytes.now < 2 ^ 63
+            → (self.new.changes ≡ self.old.changes ++ Change.Write at bytes.now ∷ []) ⊎ (self.new.starved ≡ true) }
     {
         let fails = self.count_call();
         let fits = at < MOST && (bytes.len() as u64) < MOST - at;
@@ -201,6 +203,21 @@ impl MemoryDisk {
             return Err(self.fault());
         }
         Ok(())
+    }
+}
+
+impl Files<MemoryDisk> {
+    ghost use Rattle.disk_model.specs.Memory.{empty_disk};
+
+    /// Files in memory that are empty and never fail.
+    pub fn empty(alloc: Global) -> Result<Files<MemoryDisk>, AllocError>
+        ensures { IfOk result (λ files. (files.log0 ≡ empty_disk) × (files.log1 ≡ empty_disk) × (files.bodies ≡ empty_disk)) }
+    {
+        Ok(Files {
+            log0: MemoryDisk::new(alloc, Vec::new(alloc), Vec::new(alloc))?,
+            log1: MemoryDisk::new(alloc, Vec::new(alloc), Vec::new(alloc))?,
+            bodies: MemoryDisk::new(alloc, Vec::new(alloc), Vec::new(alloc))?,
+        })
     }
 }
 
@@ -256,6 +273,10 @@ impl Disk for MemoryDisk {
         ensures reads { memory_told.reads self.new ≡ memory_told.reads self.old }
         ensures cause { HasCause memory_told self.old self.new result }
         ensures attempt { Attempt self.old self.new (Change.Write at bytes.now) (nat_le (2 ^ 63) (at + length bytes.now)) result }
+
+        // Also a write that fails by its number is done in full and recorded, unless there was no memory for that.
+        ensures in_full { at + length bytes.now < 2 ^ 63
+            → (self.new.changes ≡ self.old.changes ++ Change.Write at bytes.now ∷ []) ⊎ (self.new.starved ≡ true) }
     {
         self.attempt_write(at, bytes)
     }

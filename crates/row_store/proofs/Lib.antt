@@ -3,4 +3,5 @@ pub mod FoundRows
 pub mod NewIds
 pub mod AfterCrash
 pub mod Loads
+pub mod InMemory
 pub mod Alone

@@ -7,6 +7,7 @@
 mod bodies;
 mod committing;
 mod faults;
+mod in_memory;
 pub mod laws;
 mod loading;
 mod replaying;
@@ -14,6 +15,7 @@ mod store;
 
 pub use bodies::BodyRef;
 pub use faults::{LoadFault, StoreFault};
+pub use in_memory::empty_store;
 pub use loading::Unloaded;
 pub use store::RowStore;
 

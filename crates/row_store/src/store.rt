@@ -23,8 +23,8 @@ use std::marker::Model;
 // The format of the logs: bodies have their content in their rows.
 pub(crate) const FORMAT: u8 = 0;
 
-/// A store of rows, in use with its files, which nobody else writes. A store on which a call failed is given up: its files can
-/// still be taken back, and are to be loaded again.
+/// A store of rows, in use with its files, which nobody else writes. Any call on it that answers want of memory or a fault, also one
+/// of a crate above, gives it up: its files can still be taken back, and are to be loaded again.
 ///
 /// Where a disk doesn't tell what a read gives, as one over a real file, nothing is promised of what the files hold.
 #[derive(Drop)]
