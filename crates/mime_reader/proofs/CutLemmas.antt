@@ -1,10 +1,11 @@
 -- Bodies, cut at their delimiters.
-use Rattle.std.proofs.Common.{◌≡◌, ℕ, ◌+◌, ◌-◌, ◌<◌, ◌≤◌, true, false, cond, List, [], ◌∷◌, ◌++◌, map, length, take, Option, Some, None, refl, sym, ◌∙◌, ap, subst, arith, length-append}
-use Rattle.std.proofs.lemmas.Bool.{cond-true, cond-false}
-use Rattle.std.proofs.lemmas.List.{append_assoc, append-nil}
+use Rattle.std.proofs.Common.{◌≡◌, ℕ, Bor, MatchOption, ◌+◌, ◌-◌, ◌<◌, ◌≤◌, true, false, cond, List, [], ◌∷◌, ◌++◌, map, length, take, Option, Some, None, refl, sym, ◌∙◌, ap, subst, arith, length-append}
+use Rattle.std.proofs.lemmas.Bool.{cond-true, cond-false, cond_both}
+use Rattle.std.proofs.lemmas.List.{append_assoc, append-nil, length-map}
+use Rattle.std.specs.Option.{option_map}
 use Rattle.mail_text.specs.Lines.{put, lines, joined, IsCrlf, IsFirstLine, LineLaws}
 use Rattle.mime_reader.specs.Bodies.{is_delimiter, is_closing, pieces, behind_first, parts}
-use Rattle.mime_reader.specs.Cutting.{texts, IsPiece, AllCrlf}
+use Rattle.mime_reader.specs.Cutting.{texts, IsPiece}
 use Rattle.mime_reader.proofs.LineLemmas.{ended, ended-snoc, joined_front, crlf_first, crlf_joined}
 
 -- No line is a delimiter.
@@ -147,40 +148,41 @@ module _ (b : List ℕ) where
   LeftCrlf None = Unit {0}
   LeftCrlf (Some rest) = IsCrlf rest
 
-  -- Parts that were cut, and those that are left.
-  pub record IsCut (text : List ℕ) (out : List (List ℕ)) (left : Option (List ℕ)) : Type 0 where
-    pub parts_are : out ++ left_texts left ≡ parts b text
-    pub crlf : AllCrlf out
-    pub left_crlf : LeftCrlf left
-
   map_behind : (ps : List (List (List ℕ))) → map joined (behind_first ps) ≡ behind_first (map joined ps)
   map_behind [] = refl
   map_behind (p ∷ ps) = refl
 
-  pub cut_first : (text piece : List ℕ) (left : Option (List ℕ)) → IsPiece b text piece left → IsCut text [] left
-  cut_first text piece None h = record { parts_are = sym (map_behind (pieces b (lines text)) ∙ ap behind_first h.0); crlf = tt; left_crlf = tt }
-  cut_first text piece (Some rest) h =
-      record { parts_are = sym (map_behind (pieces b (lines text)) ∙ ap behind_first h.0); crlf = tt; left_crlf = h.2 }
+  put_some : (l : List ℕ) (ps : List (List (List ℕ))) → 0 < length (put l ps)
+  put_some l [] = omega arith
+  put_some l (p ∷ ps) = omega arith
 
-  all_crlf-snoc : (out : List (List ℕ)) (piece : List ℕ) → AllCrlf out → IsCrlf piece → AllCrlf (out ++ piece ∷ [])
-  all_crlf-snoc [] piece h k = (k, tt)
-  all_crlf-snoc (x ∷ out) piece h k = (h.0, all_crlf-snoc out piece h.1 k)
+  pieces_some : (ls : List (List ℕ)) → 0 < length (pieces b ls)
+  pieces_some [] = omega arith
+  pieces_some (l ∷ ls) =
+      cond_both (is_closing b l) ([] ∷ []) (cond (is_delimiter b l) ([] ∷ pieces b ls) (put l (pieces b ls))) (λ ps. 0 < length ps) (λ _. omega arith)
+      (λ _. cond_both (is_delimiter b l) ([] ∷ pieces b ls) (put l (pieces b ls)) (λ ps. 0 < length ps) (λ _. omega arith) (λ _. put_some l (pieces b ls)))
 
-  pub cut_more : (text : List ℕ) (out : List (List ℕ)) (rest piece : List ℕ) (left : Option (List ℕ)) → IsPiece b rest piece left → IsCut text out (Some rest) →
-      IsCut text (out ++ piece ∷ []) left
-  cut_more text out rest piece None h k = record {
-    parts_are = append_assoc out (piece ∷ []) [] ∙ ap (λ z. out ++ z) (sym h.0) ∙ k.parts_are;
-    crlf = all_crlf-snoc out piece k.crlf h.1;
-    left_crlf = tt;
-  }
-  cut_more text out rest piece (Some more) h k = record {
-    parts_are = append_assoc out (piece ∷ []) (texts b more) ∙ ap (λ z. out ++ z) (sym h.0) ∙ k.parts_are;
-    crlf = all_crlf-snoc out piece k.crlf h.1;
-    left_crlf = h.2;
-  }
+  pub texts_some : (text : List ℕ) → 0 < length (texts b text)
+  texts_some text = simp length-map (pieces_some (lines text))
 
-  pub cut_all : (text : List ℕ) (out : List (List ℕ)) → IsCut text out None → out ≡ parts b text
-  cut_all text out k = sym (append-nil out) ∙ k.parts_are
+  -- The parts are what stands behind the first delimiter.
+  pub parts_left : (text piece : List ℕ) (left : Option (Bor (List ℕ))) → IsPiece b text piece (option_map (λ x. x.now) left) →
+      MatchOption left (parts b text ≡ []) (λ rest. (parts b text ≡ texts b rest.now) × IsCrlf rest.now)
+  parts_left text piece None h = map_behind (pieces b (lines text)) ∙ ap behind_first h.0
+  parts_left text piece (Some rest) h = (map_behind (pieces b (lines text)) ∙ ap behind_first h.0, h.2)
+
+  -- A piece is the first of the texts, and the others are left.
+  pub piece_first : (rest piece : List ℕ) (left : Option (List ℕ)) → IsPiece b rest piece left → texts b rest ≡ piece ∷ left_texts left
+  piece_first rest piece None h = h.0
+  piece_first rest piece (Some more) h = h.0
+
+  pub piece_crlf : (rest piece : List ℕ) (left : Option (List ℕ)) → IsPiece b rest piece left → IsCrlf piece
+  piece_crlf rest piece None h = h.1
+  piece_crlf rest piece (Some more) h = h.1
+
+  pub left_crlf : (rest piece : List ℕ) (left : Option (List ℕ)) → IsPiece b rest piece left → LeftCrlf left
+  left_crlf rest piece None h = tt
+  left_crlf rest piece (Some more) h = h.2
 
   -- how much is left to be cut
   abbrev pub left_size : Option (List ℕ) → ℕ

@@ -1,8 +1,7 @@
 -- The steps of a reader, and what it is to answer.
-use Rattle.std.proofs.Common.{◌≡◌, ℕ, zero, suc, ◌+◌, ◌-◌, ◌<◌, ◌≤◌, Bool, true, false, cond, ltb, List, [], ◌∷◌, ◌++◌, map, length, Option, Some, None, Result, Ok, Err, Bor, get_or, refl, sym, ◌∙◌, ap, subst, arith}
+use Rattle.std.proofs.Common.{◌≡◌, ℕ, zero, suc, ◌+◌, ◌-◌, ◌<◌, ◌≤◌, Bool, true, false, cond, ltb, List, [], ◌∷◌, ◌++◌, length, Option, Some, None, Result, Ok, Err, refl, sym, ◌∙◌, ap, subst, arith}
 use Rattle.std.proofs.lemmas.Bool.{cond-true, cond-false, lt-ltb, le-ltb}
-use Rattle.mail_text.specs.Lines.{lines, joined, IsCrlf}
-use Rattle.mime_reader.specs.Cutting.{AllCrlf}
+use Rattle.mail_text.specs.Lines.{lines}
 use Rattle.mime_tree.specs.declared.values.Field.{Field}
 use Rattle.mime_tree.specs.declared.reasons.Reason.{Reason}
 use Rattle.mime_tree.specs.declared.reasons.Reason.TheVariants.{NoBoundary, NoDelimiter, TooDeep, TooMany}
@@ -12,9 +11,8 @@ use Rattle.mime_tree.specs.Trees.Content.{multi, nested}
 use Rattle.mime_tree.specs.Trees.Trees.{none, more}
 use Rattle.mime_tree.specs.Contents.{trees_of}
 use Rattle.mime_tree.specs.Sizes.{nodes, nodes_in, nodes_of}
-use Rattle.header_reader.specs.Fields.{header, body, fields_of}
+use Rattle.header_reader.specs.Fields.{header}
 use Rattle.header_reader.specs.Faults.{fault_of}
-use Rattle.header_reader.specs.Values.{read_field}
 use Rattle.transfer_codec.specs.Layout.{decoded64}
 use Rattle.mime_reader.specs.declared.faults.ReadFault.{ReadFault}
 use Rattle.mime_reader.specs.declared.faults.ReadFault.TheVariants.{Unreadable, NoMemory}
@@ -23,7 +21,7 @@ use Rattle.mime_reader.specs.declared.kinds.BodyKind.TheVariants.{Multipart, Emb
 use Rattle.mime_reader.specs.Kinds.{body_kind}
 use Rattle.mime_reader.specs.Bodies.{parts, is_usable}
 use Rattle.mime_reader.specs.Reading.{and_then, unless, or_plain, leaf_of, Reader, read_parts, read_multipart, read_body, fields_in, body_of, read, most_nodes, Gives}
-use Rattle.mime_reader.specs.Steps.{Fails, Answers, Tells}
+use Rattle.mime_reader.specs.Steps.{Fails, Tells}
 
 pub read_deep : (levels : ℕ) (es : List (List ℕ)) (d : Bool) (n : ℕ) (text : List ℕ) → levels ≡ 0 → read levels es d n text ≡ Err TooDeep
 unfolding read
@@ -52,18 +50,6 @@ read_step zero es d n text some few = absurd (omega arith)
 read_step (suc levels) es d n text some few =
     read_some levels es d n text ∙ cond-true (ltb n most_nodes) (from_header levels es d n text) (Err TooMany) (lt-ltb n most_nodes few)
     ∙ ap (λ k. from_header k es d n text) (let e : levels ≡ suc levels - 1 = omega arith in e)
-
--- A text is read by its lines alone.
-pub read_lines : (levels : ℕ) (es : List (List ℕ)) (d : Bool) (n : ℕ) (a b : List ℕ) → lines a ≡ lines b → read levels es d n a ≡ read levels es d n b
-read_lines zero es d n a b e = read_deep 0 es d n a refl ∙ sym (read_deep 0 es d n b refl)
-read_lines (suc levels) es d n a b e =
-    let by = λ (ls : List (List ℕ)).
-    cond (ltb n most_nodes)
-    (unless (fault_of (header ls))
-    (and_then (read_body (read levels) es (body_kind d (map read_field (fields_of (header ls)))) (n + 1) (joined (body ls)))
-    (λ content. Ok (node (map read_field (fields_of (header ls))) content))))
-    (Err TooMany) in
-    read_some levels es d n a ∙ ap by e ∙ sym (read_some levels es d n b)
 
 -- Faults.
 pub fails_then : {A B : Type 0} (fault : ReadFault) (r : Result A Reason) (f : A → Result B Reason) → Fails fault r → Fails fault (and_then r f)
@@ -222,12 +208,6 @@ none_is f n [] e = refl
 none_is f n (t ∷ ts) e = absurd (omega arith)
 
 -- The answer of a whole message.
-pub gives_of : (r : Result Tree ReadFault) (n : ℕ) (expected : Result Tree Reason) → Answers (λ tree. tree) nodes 0 n r expected → Gives r expected
-gives_of (Ok tree) n expected h = h.0
-gives_of (Err (Unreadable reason)) n expected h = h
-gives_of (Err NoMemory) n expected h = tt
-
-pub crlf_item : (texts : List (Bor (List ℕ))) (i : ℕ) (d : Bor (List ℕ)) → AllCrlf (map (λ x. x.now) texts) → i < length texts → IsCrlf (get_or texts i d).now
-crlf_item [] i d all h = absurd (omega arith)
-crlf_item (t ∷ ts) zero d all h = all.0
-crlf_item (t ∷ ts) (suc i) d all h = crlf_item ts i d all.1 (omega arith)
+pub fails_gives : (fault : ReadFault) (expected : Result Tree Reason) → Fails fault expected → Gives (Err fault) expected
+fails_gives (Unreadable reason) expected h = h
+fails_gives NoMemory expected h = tt

@@ -25,8 +25,3 @@ texts boundary text = map joined (pieces boundary (lines text))
 abbrev pub IsPiece : List ℕ → List ℕ → List ℕ → Option (List ℕ) → Type 0
 IsPiece boundary text piece None = (texts boundary text ≡ piece ∷ []) × IsCrlf piece
 IsPiece boundary text piece (Some rest) = (texts boundary text ≡ piece ∷ texts boundary rest) × IsCrlf piece × IsCrlf rest × (length rest < length text)
-
--- Each text has CRLFs alone.
-abbrev pub AllCrlf : List (List ℕ) → Type 0
-AllCrlf [] = Unit {0}
-AllCrlf (t ∷ ts) = IsCrlf t × AllCrlf ts

@@ -142,6 +142,11 @@ Gives (Ok tree) expected = expected ≡ Ok tree
 Gives (Err (Unreadable reason)) expected = expected ≡ Err reason
 Gives (Err NoMemory) expected = Unit {0}
 
+-- Bytes that could be a message by what is seen of them without memory: they have no zero byte, and a header that can be read.
+pub record BeginsMessage (text : List ℕ) : Type 0 where
+  pub no_zero : has 0 text ≡ false
+  pub sound : fault_of (header (lines text)) ≡ None
+
 -- A field that was read from a good one.
 pub record IsGoodField (field : Field) : Type 0 where
   pub raw : RawField

@@ -1,15 +1,14 @@
 //! The body of a multipart, cut into its parts (RFC 2046 §5.1.1).
-ghost use Rattle.std.specs.Prelude.{◌≡◌, ◌∷◌, ◌++◌, ◌≤◌, ◌-◌, [], IfOk, length, map, take};
+ghost use Rattle.std.specs.Prelude.{◌≡◌, ◌∷◌, ◌++◌, ◌≤◌, ◌-◌, [], MatchOption, length, take};
 ghost use Rattle.std.specs.List.{list_all, list_any};
 ghost use Rattle.std.specs.Option.{option_map};
 ghost use Rattle.std.specs.Str.{bytes_eq};
 ghost use Rattle.mail_text.specs.Lines.{IsCrlf};
 ghost use Rattle.mime_reader.specs.Bodies.{closing, delimiter, is_boundary as is_boundary_of, is_closing, is_delimiter, is_printing as is_printing_of, is_usable as is_usable_of, parts as parts_of};
-ghost use Rattle.mime_reader.specs.Cutting.{AllCrlf, IsPiece, closes, delimits};
+ghost use Rattle.mime_reader.specs.Cutting.{IsPiece, closes, delimits, texts};
 
 use mail_text::{law_lines, split_line, trim_end};
 use octets::Octets;
-use std::alloc::{AllocError, Global};
 
 /// What a line is between the parts of a multipart.
 #[derive(Clone, Copy)]
@@ -64,7 +63,7 @@ fn before(text: &[u8], at: usize) -> &[u8]
 }
 
 /// The text before the first delimiter, and what stands behind that line; nothing where the text ends or is closed first.
-fn first_piece<'a>(boundary: &[u8], text: &'a [u8]) -> (&'a [u8], Option<&'a [u8]>)
+pub(crate) fn first_piece<'a>(boundary: &[u8], text: &'a [u8]) -> (&'a [u8], Option<&'a [u8]>)
     requires { IsCrlf text.now }
     ensures { IsPiece boundary.now text.now result.0.now (option_map (λ rest. rest.now) result.1) }
 {
@@ -87,24 +86,13 @@ fn first_piece<'a>(boundary: &[u8], text: &'a [u8]) -> (&'a [u8], Option<&'a [u8
     }
 }
 
-/// The texts of the parts of a body whose line ends are CRLFs. It passes over the body once.
-pub(crate) fn parts<'a>(
-    alloc: Global,
-    boundary: &[u8],
-    text: &'a [u8],
-) -> Result<Vec<&'a [u8]>, AllocError>
+/// What stands behind the first delimiter of a body whose line ends are CRLFs; None where it has no part.
+pub(crate) fn behind_delimiter<'a>(boundary: &[u8], text: &'a [u8]) -> Option<&'a [u8]>
     requires { IsCrlf text.now }
-    ensures parts { IfOk result (λ found. map (λ x. x.now) found.items ≡ parts_of boundary.now text.now) }
-    ensures crlf { IfOk result (λ found. AllCrlf (map (λ x. x.now) found.items)) }
+    ensures { MatchOption result (parts_of boundary.now text.now ≡ []) (λ rest. (parts_of boundary.now text.now ≡ texts boundary.now rest.now) × IsCrlf rest.now) }
 {
-    let mut out = Vec::new(alloc);
-    let (_, mut left) = first_piece(boundary, text);
-    while let Some(rest) = left {
-        let (piece, behind) = first_piece(boundary, rest);
-        out.push(piece)?;
-        left = behind;
-    }
-    Ok(out)
+    let (_, left) = first_piece(boundary, text);
+    left
 }
 
 fn are_printing(text: &[u8]) -> bool

@@ -22,6 +22,3 @@ pub use reading::{law_reading, read_message};
 pub use sizes::law_sizes;
 pub use value_sizes::boundary_size;
 pub use wrapping::{law_wrapping, read_or_wrap, wrap};
-
-#[cfg(test)]
-mod tests;

@@ -1,24 +1,22 @@
 //! Messages read, with all their parts.
-ghost use Rattle.std.specs.Prelude.{◌≡◌, ◌≤◌, [], ◌∷◌, ◌++◌, false, IfOk, IfErr, OnOk, length, map, drop, None, Some};
-ghost use Rattle.mail_text.specs.Lines.{IsCrlf, lines};
+ghost use Rattle.std.specs.Prelude.{◌≡◌, ◌≤◌, [], ◌∷◌, ◌++◌, ◌-◌, false, IfOk, IfErr, OnOk, length, map, drop, None, Some};
+ghost use Rattle.mail_text.specs.Lines.{IsCrlf, joined, lines};
 ghost use Rattle.mime_tree.specs.Contents.{content_of, trees_of};
 ghost use Rattle.mime_tree.specs.Trees.Content.{nested as nested_in};
 ghost use Rattle.mime_tree.specs.Sizes.{nodes, nodes_in, nodes_of};
 ghost use Rattle.header_reader.specs.Fields.{header};
 ghost use Rattle.header_reader.specs.Faults.{fault_of};
 ghost use Rattle.header_reader.specs.Values.{read_field as read_field_of};
-ghost use Rattle.mime_reader.specs.Bodies.{parts as parts_of};
-ghost use Rattle.mime_reader.specs.Cutting.{AllCrlf};
+ghost use Rattle.mime_reader.specs.Cutting.{texts};
 ghost use Rattle.mime_reader.specs.Kinds.{body_kind as body_kind_of};
-ghost use Rattle.mime_reader.specs.Reading.{Gives, IsMessage, ReadingLaws, body_of, fields_in, leaf_of, outcome, read, read_body as read_body_of, read_multipart as read_multipart_of, read_parts as read_parts_of};
-ghost use Rattle.mime_reader.specs.Steps.{Answers, Tells};
+ghost use Rattle.mime_reader.specs.Reading.{BeginsMessage, Gives, IsMessage, ReadingLaws, body_of, fields_in, leaf_of, outcome, read, read_body as read_body_of, read_multipart as read_multipart_of, read_parts as read_parts_of};
+ghost use Rattle.mime_reader.specs.Steps.{Answers, Comes, Tells};
 
-use crate::bodies::{is_usable, parts};
+use crate::bodies::{behind_delimiter, first_piece, is_usable};
 use crate::faults::ReadFault;
 use crate::kinds::{BodyKind, body_kind};
 use header_reader::{HeaderFault, RawField, fields, law_fields, read_field};
-use mail_text::{crlf, law_lines};
-use memchr::memchr;
+use mail_text::{crlf, has_byte, is_crlf, law_lines};
 use mime_tree::{Body, Encoding, Field, Message, Reason};
 use octets::Octets;
 use std::alloc::{AllocError, Global};
@@ -32,28 +30,54 @@ const MOST_NODES: usize = 501;
 
 /// Bytes read as a message. A line of the bytes ends with LF or CRLF; in the message each is a CRLF.
 ///
-/// Time and memory go with the length of the bytes: each of the 17 levels is passed over once.
+/// Time and memory go with the length of the bytes: each of the 17 levels is passed over once, and they are copied only where a
+/// line of the body ends with LF alone. A zero byte and what is wrong with the header are told before memory is asked for.
 pub fn read_message(alloc: Global, bytes: &[u8]) -> Result<Message, ReadFault>
     ensures exact { Gives result (outcome bytes.now) }
     ensures reads { IfOk result (IsMessage bytes.now) }
+    ensures told { IfErr result (λ fault. fault ≡ ReadFault.NoMemory → BeginsMessage bytes.now) }
 {
     law_reading();
-    law_lines();
-    if memchr(0, bytes).is_some() {
+    if has_byte(bytes, 0) {
         return Err(ReadFault::Unreadable(Reason::ZeroByte));
     }
-    match crlf(alloc, bytes) {
-        Ok(text) => read_text(alloc, &text),
-        Err(_) => Err(ReadFault::NoMemory),
+    read_whole(alloc, bytes)
+}
+
+/// Bytes without a zero byte read as a message.
+fn read_whole(alloc: Global, bytes: &[u8]) -> Result<Message, ReadFault>
+    ensures exact { Gives result (read MOST_LEVELS [] false 0 bytes.now) }
+    ensures told { IfErr result (λ fault. fault ≡ ReadFault.NoMemory → fault_of (header (lines bytes.now)) ≡ None) }
+{
+    match read_head(alloc, false, bytes) {
+        Ok(head) => {
+            let Head {
+                fields,
+                kind,
+                place,
+            } = head;
+            match read_content(alloc, kind, &bytes[place..]) {
+                Ok(body) => Ok(Message { fields, body }),
+                Err(fault) => Err(fault),
+            }
+        }
+        Err(fault) => Err(fault),
     }
 }
 
-fn read_text(alloc: Global, text: &[u8]) -> Result<Message, ReadFault>
-    requires { IsCrlf text.now }
-    ensures { Gives result (read MOST_LEVELS [] false 0 text.now) }
+/// The body of a whole message.
+fn read_content(alloc: Global, kind: BodyKind, text: &[u8]) -> Result<Body, ReadFault>
+    ensures { Comes content_of result (read_body_of (read (MOST_LEVELS - 1)) [] kind 1 (joined (lines text.now))) }
 {
-    let mut number = 0;
-    read_node(alloc, MOST_LEVELS, &[], false, &mut number, text)
+    law_lines();
+    let mut number = 1;
+    if is_crlf(text) {
+        return read_body(alloc, MOST_LEVELS - 1, &[], kind, &mut number, text);
+    }
+    match crlf(alloc, text) {
+        Ok(text) => read_body(alloc, MOST_LEVELS - 1, &[], kind, &mut number, &text),
+        Err(_) => Err(ReadFault::NoMemory),
+    }
 }
 
 /// What stands before the body of a message or a part.
@@ -65,13 +89,12 @@ struct Head {
 }
 
 fn read_head(alloc: Global, digest: bool, text: &[u8]) -> Result<Head, ReadFault>
-    requires { IsCrlf text.now }
     ensures sound { IfOk result (λ found. fault_of (header (lines text.now)) ≡ None) }
     ensures fields { IfOk result (λ found. found.fields.items ≡ fields_in text.now) }
     ensures kind { IfOk result (λ found. found.kind ≡ body_kind_of digest (fields_in text.now)) }
     ensures within { IfOk result (λ found. found.place ≤ length text.now) }
-    ensures body { IfOk result (λ found. drop found.place text.now ≡ body_of text.now) }
-    ensures crlf { IfOk result (λ found. IsCrlf (drop found.place text.now)) }
+    ensures body { IfOk result (λ found. joined (lines (drop found.place text.now)) ≡ body_of text.now) }
+    ensures crlf { IfOk result (λ found. IsCrlf text.now → IsCrlf (drop found.place text.now)) }
     ensures fault { IfErr result (λ fault. Tells fault (fault_of (header (lines text.now)))) }
 {
     match fields_of(alloc, text) {
@@ -89,12 +112,11 @@ fn read_head(alloc: Global, digest: bool, text: &[u8]) -> Result<Head, ReadFault
 
 /// The fields of a message or a part, and where its body begins.
 fn fields_of(alloc: Global, text: &[u8]) -> Result<(Vec<Field>, usize), ReadFault>
-    requires { IsCrlf text.now }
     ensures sound { IfOk result (λ found. fault_of (header (lines text.now)) ≡ None) }
     ensures fields { IfOk result (λ found. found.0.items ≡ fields_in text.now) }
     ensures within { IfOk result (λ found. found.1 ≤ length text.now) }
-    ensures body { IfOk result (λ found. drop found.1 text.now ≡ body_of text.now) }
-    ensures crlf { IfOk result (λ found. IsCrlf (drop found.1 text.now)) }
+    ensures body { IfOk result (λ found. joined (lines (drop found.1 text.now)) ≡ body_of text.now) }
+    ensures crlf { IfOk result (λ found. IsCrlf text.now → IsCrlf (drop found.1 text.now)) }
     ensures fault { IfErr result (λ fault. Tells fault (fault_of (header (lines text.now)))) }
 {
     law_lines();
@@ -233,13 +255,13 @@ fn read_multipart(
     if !is_usable(enclosing, boundary.as_slice()) {
         return Err(ReadFault::Unreadable(Reason::NoBoundary));
     }
-    match parts(alloc, boundary.as_slice(), text) {
-        Ok(texts) => read_inner(alloc, levels, enclosing, boundary, digest, number, &texts),
-        Err(_) => Err(ReadFault::NoMemory),
+    match behind_delimiter(boundary.as_slice(), text) {
+        Some(rest) => read_inner(alloc, levels, enclosing, boundary, digest, number, rest),
+        None => Err(ReadFault::Unreadable(Reason::NoDelimiter)),
     }
 }
 
-/// The parts of a multipart that its body was cut into.
+/// The parts of a multipart, which stand behind its first delimiter.
 #[cycle(reader)]
 fn read_inner(
     alloc: Global,
@@ -248,16 +270,14 @@ fn read_inner(
     boundary: Octets,
     digest: bool,
     number: &mut usize,
-    texts: &[&[u8]],
+    text: &[u8],
 ) -> Result<Body, ReadFault>
-    requires { AllCrlf (map (λ x. x.now) texts.now) }
-    ensures { Answers content_of nodes_in number.old number.new result (read_multipart_of (read levels (boundary ∷ enclosing.now) digest) number.old (map (λ x. x.now) texts.now)) }
+    requires { IsCrlf text.now }
+    ensures { Answers content_of nodes_in number.old number.new result (read_multipart_of (read levels (boundary ∷ enclosing.now) digest) number.old (texts boundary text.now)) }
 {
-    if texts.is_empty() {
-        return Err(ReadFault::Unreadable(Reason::NoDelimiter));
-    }
-    match within(alloc, boundary, enclosing) {
-        Ok(inner) => match read_parts(alloc, levels, &inner, digest, number, &*texts) {
+    let own = boundary.as_slice();
+    match within(alloc, own, enclosing) {
+        Ok(inner) => match read_parts(alloc, levels, &inner, own, digest, number, text) {
             Ok(parts) => Ok(Body::Multi(parts)),
             Err(fault) => Err(fault),
         },
@@ -266,39 +286,43 @@ fn read_inner(
 }
 
 /// The boundaries around the parts of a multipart, its own first. Each that is usable has 70 bytes at most.
-fn within(alloc: Global, boundary: Octets, enclosing: &[Octets]) -> Result<Vec<Octets>, AllocError>
-    ensures { IfOk result (λ found. found.items ≡ boundary ∷ enclosing.now) }
+fn within(alloc: Global, own: &[u8], enclosing: &[Octets]) -> Result<Vec<Octets>, AllocError>
+    ensures { IfOk result (λ found. found.items ≡ own.now ∷ enclosing.now) }
 {
     let mut inner = Vec::with_capacity(alloc, enclosing.len().saturating_add(1))?;
-    inner.push(boundary)?;
+    inner.push(Octets::new(own.to_vec(alloc)?))?;
     for outer in enclosing {
         inner.push(Octets::new(outer.as_slice().to_vec(alloc)?))?;
     }
     Ok(inner)
 }
 
-/// Parts, one after another.
+/// The parts between delimiters, one after another.
 #[cycle(reader)]
 fn read_parts(
     alloc: Global,
     levels: usize,
     enclosing: &[Octets],
+    boundary: &[u8],
     digest: bool,
     number: &mut usize,
-    texts: &[&[u8]],
+    text: &[u8],
 ) -> Result<Vec<Message>, ReadFault>
-    requires { AllCrlf (map (λ x. x.now) texts.now) }
-    ensures { Answers (λ parts. trees_of parts.items) nodes_of number.old number.new result (read_parts_of (read levels enclosing.now digest) number.old (map (λ x. x.now) texts.now)) }
+    requires { IsCrlf text.now }
+    ensures { Answers (λ parts. trees_of parts.items) nodes_of number.old number.new result (read_parts_of (read levels enclosing.now digest) number.old (texts boundary.now text.now)) }
 {
     let mut out = Vec::new(alloc);
-    for text in texts {
-        match read_node(alloc, levels, enclosing, digest, number, text) {
+    let mut left = Some(text);
+    while let Some(rest) = left {
+        let (piece, behind) = first_piece(boundary, rest);
+        match read_node(alloc, levels, enclosing, digest, number, piece) {
             Ok(message) => match keep(&mut out, message) {
                 Ok(()) => {}
                 Err(fault) => return Err(fault),
             },
             Err(fault) => return Err(fault),
         }
+        left = behind;
     }
     Ok(out)
 }

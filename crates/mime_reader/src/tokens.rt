@@ -4,7 +4,7 @@ ghost use Rattle.mail_text.specs.Texts.{begins, behind, front};
 ghost use Rattle.mime_reader.specs.ContentTypes.{behind_mark, is_token as is_token_of, quoted_content, value_front as value_front_of};
 ghost use Rattle.mime_reader.specs.Found.{IsFront};
 
-use mail_text::trim_start;
+use mail_text::{ByteClass, front_len, trim_start};
 use octets::Octets;
 use std::alloc::{AllocError, Global};
 
@@ -29,6 +29,17 @@ fn is_token(b: u8) -> bool
         )
 }
 
+/// The bytes of tokens.
+struct TokenByte;
+
+impl ByteClass for TokenByte {
+    ghost test = { is_token_of };
+
+    fn contains(b: u8) -> bool {
+        is_token(b)
+    }
+}
+
 /// How long the token at the front of a text is; 0 where there is none.
 pub(crate) fn token_len(text: &[u8]) -> usize
     ensures token { front is_token_of text.now ≡ take result text.now }
@@ -36,11 +47,7 @@ pub(crate) fn token_len(text: &[u8]) -> usize
     ensures within { result ≤ length text.now }
     ensures some { begins is_token_of text.now ≡ nat_lt 0 result }
 {
-    let mut end = 0;
-    while end < text.len() && is_token(text[end]) {
-        end += 1;
-    }
-    end
+    front_len::<TokenByte>(text)
 }
 
 /// How long a byte at the front of a text is with the blanks around it; None where another byte stands there.

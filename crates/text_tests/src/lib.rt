@@ -10,6 +10,8 @@ mod header_reader_tests;
 #[cfg(test)]
 mod mail_text_tests;
 #[cfg(test)]
+mod mime_reader_tests;
+#[cfg(test)]
 mod transfer_codec_tests;
 #[cfg(test)]
 mod word_codec_tests;

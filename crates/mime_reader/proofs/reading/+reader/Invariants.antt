@@ -1,5 +1,8 @@
-use Rattle.std.proofs.Common.{◌+◌, ◌*◌, map, drop}
+use Rattle.std.proofs.Common.{◌+◌, ◌*◌}
 use Rattle.mime_reader.specs.Reading.{read}
+use Rattle.std.specs.Option.{option_map}
+use Rattle.mime_reader.specs.Cutting.{texts}
+use Rattle.mime_reader.proofs.CutLemmas.{left_texts, LeftCrlf, left_size}
 use Rattle.mime_reader.proofs.ReaderLemmas.{AreRead}
 use Rattle.mime_reader.proofs.reading.+reader.Given as goal
 
@@ -19,6 +22,11 @@ abbrev pub decreases-read_body : goal.decreases-read_body
 decreases-read_body l = 5 * l.levels + 4
 
 -- The parts that were read, and those that are left.
-abbrev pub invariant-read_parts-loop-text : goal.invariant-read_parts-loop-text
-invariant-read_parts-loop-text l =
-    AreRead (read l.levels l.enclosing l.digest) l.fn.number l.number l.out.items (map (λ x. x.now) (drop l.text-index l.texts)) (map (λ x. x.now) l.texts)
+abbrev pub invariant-read_parts-loop-left : goal.invariant-read_parts-loop-left
+invariant-read_parts-loop-left l = record {
+  read : AreRead (read l.levels l.enclosing l.digest) l.fn.number l.number l.out.items (left_texts l.boundary (option_map (λ x. x.now) l.left)) (texts l.boundary l.text);
+  crlf : LeftCrlf l.boundary (option_map (λ x. x.now) l.left);
+}
+
+abbrev pub decreases-read_parts-loop-left : goal.decreases-read_parts-loop-left
+decreases-read_parts-loop-left l = left_size l.boundary (option_map (λ x. x.now) l.left)

@@ -1,5 +1,5 @@
 //! Messages, the reasons why there are none, content types and wrappers.
-use crate::{ReadFault, content_type, parameter_value, read_message, read_or_wrap, wrap};
+use mime_reader::{ReadFault, content_type, parameter_value, read_message, read_or_wrap, wrap};
 use mime_tree::{Body, Encoding, Message, Reason, Value};
 use std::alloc::{AllocError, Global};
 use std::test::Fail;
