@@ -55,7 +55,7 @@ content_is_new contents entries rows entry row are same new =
     (ap (λ k. option_map (λ (e : ContentEntry). e.id) (row_at content_entry_key k entries)) same ∙ are.each (contents.content row) ∙ ap (option_map contents.id) new)
 
 -- entries of one digest are ordered by their ids
-is_lt_nat : (a b : ℕ) → is_lt (nat_cmp a b) ≡ nat_lt a b
+pub is_lt_nat : (a b : ℕ) → is_lt (nat_cmp a b) ≡ nat_lt a b
 is_lt_nat a b = by (nat_lt a b) (a == b)
   where
     by : (s t : Bool) → is_lt (cond s Less (cond t Equal Greater)) ≡ s
@@ -103,7 +103,7 @@ no_id g n (r ∷ rows) e = by (r.id == n) (g r) refl e (λ h. no_id g n rows h)
     by false true q h rest = ap (λ c. c || list_any (λ i. i == n) (map (λ (x : BodyPart). x.id) (filter g rows))) q ∙ rest h
     by false false q h rest = rest h
 
-or_right : (a b : Bool) → (a || b) ≡ false → b ≡ false
+pub or_right : (a b : Bool) → (a || b) ≡ false → b ≡ false
 or_right true b e = absurd (true≢false e)
 or_right false b e = e
 

@@ -5,3 +5,4 @@ pub mod Closed
 pub mod Running
 pub mod Standing
 pub mod Ascending
+pub mod NameEntries

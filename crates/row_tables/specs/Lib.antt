@@ -1,5 +1,6 @@
 pub mod Keys
 pub mod TableRows
 pub mod Indexes
+pub mod Names
 pub mod References
 pub mod Fits

@@ -119,7 +119,7 @@ impl Unique for AddressRow {
     }
 }
 
-fn copied(alloc: Global, text: &Octets) -> Result<Octets, AllocError>
+pub(crate) fn copied(alloc: Global, text: &Octets) -> Result<Octets, AllocError>
     ensures { IfOk result (λ copy. copy ≡ text.now) }
 {
     Ok(Octets::new(text.as_slice().to_vec(alloc)?))

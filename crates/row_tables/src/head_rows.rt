@@ -1,13 +1,15 @@
 // The calls that give rows of users, mailboxes, subscriptions and counters.
-ghost use Rattle.std.specs.Prelude.{◌≡◌, ◌∷◌, [], Some};
+ghost use Rattle.std.specs.Prelude.{◌≡◌, ◌∷◌, [], Some, length};
 ghost use Rattle.std.specs.Option.{option_copied};
 ghost use Rattle.ordered_rows.specs.RowKey.{number_key};
 ghost use Rattle.ordered_rows.specs.Listed.{IsInOrder, row_at, rows_from};
 ghost use Rattle.row_tables.specs.Keys.{owned_key, user_key, mailbox_key, subscription_key};
+ghost use Rattle.row_tables.specs.Names.{user_named};
 ghost use Rattle.row_tables.specs.References.{subscriptions_of};
 
 use crate::heads::{Counters, Mailbox, Subscription, User};
 use crate::keys::owned;
+use crate::named::row_named;
 use crate::tables::Tables;
 use ordered_rows::{Key, Numbered, Rows};
 use std::slice;
@@ -34,6 +36,22 @@ impl Tables {
     {
         let heads = &self.heads;
         heads.users.rows_from(Key::of_number(key as u64))
+    }
+
+    /// The user with a name. Of several, which no server makes, the one with the least id.
+    pub fn user_named(&self, name: &[u8]) -> Option<&User>
+        ensures { option_copied result ≡ user_named name.now self.now.heads.users }
+    {
+        let heads = &self.heads;
+        row_named(&heads.users, &heads.user_names, 0, name)
+    }
+
+    /// How many users there are.
+    pub fn user_count(&self) -> u64
+        ensures { result ≡ length self.now.heads.users }
+    {
+        let heads = &self.heads;
+        heads.users.len()
     }
 
     pub fn mailboxes_row(&self, key: u32) -> Option<&Mailbox>

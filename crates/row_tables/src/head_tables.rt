@@ -6,26 +6,33 @@ ghost use Rattle.row_tables.specs.Keys.{owned_key, user_key, mailbox_key, subscr
 ghost use Rattle.row_tables.specs.TableRows.{no_rows};
 
 use crate::heads::{Counters, Mailbox, Subscription, User};
+use crate::indexes::NameEntry;
 use crate::keys::owned;
+use crate::named::add_named;
 use ordered_rows::{Key, Table};
 use std::alloc::{AllocError, Global};
 use std::marker::Model;
 
-// Contracts see the record of the rows.
+// Contracts see the record of the rows. `user_names` finds users by their names.
 #[derive(Drop)]
 pub(crate) struct HeadTables {
+    alloc: Global,
     pub(crate) users: Table<User>,
     pub(crate) mailboxes: Table<Mailbox>,
     pub(crate) subscriptions: Table<Subscription>,
     pub(crate) counters: Counters,
+    pub(crate) user_names: Table<NameEntry>,
 }
 
 impl Model for HeadTables {
     ghost use Rattle.row_tables.specs.TableRows.{HeadRows};
+    ghost use Rattle.row_tables.specs.Names.{AreNamed, user_naming};
 
     ghost Value = { HeadRows };
 
     ghost view = { λ t. record { users = t.users; mailboxes = t.mailboxes; subscriptions = t.subscriptions; counters = t.counters } };
+
+    ghost invariant = { λ t. AreNamed user_naming t.user_names t.users };
 }
 
 impl HeadTables {
@@ -33,10 +40,12 @@ impl HeadTables {
         ensures { result ≡ no_rows.heads }
     {
         HeadTables {
+            alloc,
             users: Table::new(alloc),
             mailboxes: Table::new(alloc),
             subscriptions: Table::new(alloc),
             counters: Counters { next: 1 },
+            user_names: Table::new(alloc),
         }
     }
 
@@ -45,7 +54,7 @@ impl HeadTables {
         ensures ok { OnOk result (self.new ≡ record self.old { users = with_row user_key row self.old.users }) }
         ensures err { OnErr result (self.new ≡ self.old) }
     {
-        self.users.insert(row)
+        add_named(self.alloc, &mut self.users, &mut self.user_names, row)
     }
 
     pub(crate) fn insert_mailbox(&mut self, row: Mailbox) -> Result<(), AllocError>

@@ -1,6 +1,9 @@
 // The rows of users, of their mailboxes and subscriptions, and the counter of mailbox ids.
+use crate::contents::copied;
+use crate::indexes::{NameEntry, Named};
 use octets::Octets;
 use ordered_rows::{Key, Keyed};
+use std::alloc::{AllocError, Global};
 
 /// A row of `users`. `verifier` is what a password is tested against.
 #[derive(Drop, Debug)]
@@ -76,5 +79,26 @@ impl Keyed for Counters {
 
     fn key(&self) -> Key<'_> {
         Key::of_number(0)
+    }
+}
+
+impl Named for User {
+    ghost use Rattle.std.specs.Prelude.{refl};
+    ghost use Rattle.row_tables.specs.Names.{user_naming};
+
+    ghost names = { user_naming };
+
+    ghost keyed = { λ row. refl };
+
+    fn id(&self) -> u32 {
+        self.id
+    }
+
+    fn entry(&self, alloc: Global) -> Result<NameEntry, AllocError> {
+        Ok(NameEntry {
+            number: 0,
+            name: copied(alloc, &self.name)?,
+            id: self.id,
+        })
     }
 }

@@ -3,6 +3,7 @@ ghost use Rattle.std.specs.Prelude.{◌≡◌, IfOk};
 ghost use Rattle.ordered_rows.specs.RowKey.{number_key};
 ghost use Rattle.row_tables.specs.Keys.{content_entry_key};
 ghost use Rattle.row_tables.specs.Indexes.{Contents};
+ghost use Rattle.row_tables.specs.Names.{Names};
 
 use octets::Octets;
 use ordered_rows::{Key, Keyed};
@@ -24,6 +25,14 @@ pub(crate) struct DigestEntry {
     pub(crate) id: u64,
 }
 
+// A row with a name, which stands among those of a number. Several rows may have it.
+#[derive(Drop)]
+pub(crate) struct NameEntry {
+    pub(crate) number: u32,
+    pub(crate) name: Octets,
+    pub(crate) id: u32,
+}
+
 // A row with an id and a content that no other row has.
 pub(crate) trait Unique: Keyed {
     ghost contents: { Contents Self };
@@ -35,6 +44,22 @@ pub(crate) trait Unique: Keyed {
     fn entry(&self, alloc: Global) -> Result<ContentEntry, AllocError>
         ensures key { IfOk result (λ e. content_entry_key e ≡ contents.entry (contents.content self.now)) }
         ensures id { IfOk result (λ e. e.id ≡ contents.id self.now) };
+}
+
+// A row with an id and a name that others may have too.
+pub(crate) trait Named: Keyed {
+    ghost names: { Names Self };
+
+    fn id(&self) -> u32
+        ensures id { result ≡ names.id self.now }
+        ensures key { Self.key_of self.now ≡ number_key result };
+
+    fn entry(&self, alloc: Global) -> Result<NameEntry, AllocError>
+        ensures number { IfOk result (λ e. e.number ≡ names.number (names.place self.now)) }
+        ensures name { IfOk result (λ e. e.name ≡ names.name (names.place self.now)) }
+        ensures id { IfOk result (λ e. e.id ≡ names.id self.now) };
+
+    ghost keyed: { (row : Self) → Self.Keyed.key_of row ≡ number_key (names.id row) };
 }
 
 impl Keyed for ContentEntry {
@@ -62,6 +87,20 @@ impl Keyed for DigestEntry {
             text: &self.digest,
             item: self.id,
             ..Key::of_number(0)
+        }
+    }
+}
+
+impl Keyed for NameEntry {
+    ghost use Rattle.row_tables.specs.Names.{name_entry_key};
+
+    ghost key_of = { name_entry_key };
+
+    fn key(&self) -> Key<'_> {
+        Key {
+            text: self.name.as_slice(),
+            item: self.id as u64,
+            ..Key::of_number(self.number as u64)
         }
     }
 }

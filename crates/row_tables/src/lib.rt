@@ -20,6 +20,7 @@ mod mark_tables;
 #[cfg(test)]
 mod mark_tests;
 mod marks;
+mod named;
 mod row_count;
 mod shared;
 mod shared_rows;

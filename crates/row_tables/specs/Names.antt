@@ -1,0 +1,76 @@
+-- Rows that are found by a name, which several of them may have, and what the indexes of names know of them.
+use Rattle.std.specs.Prelude.{◌≡◌, ℕ, Bool, true, false, ◌&&◌, ◌==◌, nat_eq, List, [], ◌∷◌, map, Option, Some, None, refl}
+use Rattle.std.proofs.Common.{ap, ◌∙◌}
+use Rattle.std.specs.List.{filter, find}
+use Rattle.std.specs.Cmp.Lexicographic.{pointwise}
+use Rattle.ordered_rows.specs.RowKey.{RowKey}
+use Rattle.ordered_rows.specs.Listed.{is_in_group}
+use Rattle.row_tables.specs.declared.heads.User.{User}
+use Rattle.row_tables.specs.declared.heads.Mailbox.{Mailbox}
+use Rattle.row_tables.specs.declared.indexes.NameEntry.{NameEntry}
+
+abbrev pub has_user_name : List ℕ → User → Bool
+has_user_name name r = pointwise nat_eq r.name name
+
+abbrev pub has_mailbox_name : ℕ → List ℕ → Mailbox → Bool
+has_mailbox_name owner name r = pointwise nat_eq r.name name && (r.owner == owner)
+
+-- the user with the name, of several the one with the least id
+abbrev pub user_named : List ℕ → List User → Option User
+user_named name rows = find (has_user_name name) rows
+
+-- the mailbox of the owner with the name, of several the one with the least id
+abbrev pub mailbox_named : ℕ → List ℕ → List Mailbox → Option Mailbox
+mailbox_named owner name rows = find (has_mailbox_name owner name) rows
+
+-- of an entry in an index of names: the number among whose rows the name stands, the name, and the row's id
+abbrev pub name_key : ℕ → List ℕ → ℕ → RowKey
+name_key number name id = record { number = number; text = name; second = []; third = []; place = 0; item = id }
+
+abbrev pub name_entry_key : NameEntry → RowKey
+name_entry_key e = name_key e.number e.name e.id
+
+-- Where the rows of a table have their names: the name, and the number among whose rows it stands.
+pub record Names (X : Type 0) : Type 1 where
+  pub Place : Type 0
+  pub place : X → Place
+  pub number : Place → ℕ
+  pub name : Place → List ℕ
+  pub has : Place → X → Bool
+  pub id : X → ℕ
+  pub same : (p : Place) (row : X) → (pointwise nat_eq (name (place row)) (name p) && true && (number (place row) == number p)) ≡ has p row
+
+-- the index has the ids of the rows with each name, ascending
+pub record AreNamed {X : Type 0} (names : Names X) (entries : List NameEntry) (rows : List X) : Type 0 where
+  pub each : (p : names.Place) → map (λ e. e.id) (filter (is_in_group name_entry_key (name_key (names.number p) (names.name p) 0)) entries) ≡ map names.id (filter (names.has p) rows)
+
+pub and_true : (b : Bool) → (b && true) ≡ b
+and_true true = refl
+and_true false = refl
+
+abbrev pub user_naming : Names User
+user_naming = record {
+  Place = List ℕ;
+  place = λ r. r.name;
+  number = λ name. 0;
+  name = λ name. name;
+  has = has_user_name;
+  id = λ r. r.id;
+  same = λ name r. ap (λ b. b && true) (and_true (pointwise nat_eq r.name name)) ∙ and_true (pointwise nat_eq r.name name);
+}
+
+abbrev pub mailbox_naming : Names Mailbox
+mailbox_naming = record {
+  Place = ℕ × List ℕ;
+  place = λ r. (r.owner, r.name);
+  number = λ p. p.0;
+  name = λ p. p.1;
+  has = λ p. has_mailbox_name p.0 p.1;
+  id = λ r. r.id;
+  same = λ p r. ap (λ b. b && (r.owner == p.0)) (and_true (pointwise nat_eq r.name p.1));
+}
+
+-- the first of a list
+abbrev pub IsFirst : Option ℕ → List ℕ → Type 0
+IsFirst None ids = ids ≡ []
+IsFirst (Some i) ids = (rest : List ℕ) × (ids ≡ i ∷ rest)
