@@ -46,6 +46,3 @@ pub fn listing(alloc: Global, tables: &Tables) -> Result<Vec<u8>, AllocError>
     print_rows(&mut out, tables.counters_rows())?;
     Ok(out)
 }
-
-#[cfg(test)]
-mod tests;

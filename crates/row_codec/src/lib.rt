@@ -13,6 +13,3 @@ mod row;
 mod values;
 
 pub use lists::{decode, encode, encodings_differ, fitting_texts_have_lengths};
-
-#[cfg(test)]
-mod tests;

@@ -17,8 +17,6 @@ mod mail_tables;
 mod mails;
 mod mark_rows;
 mod mark_tables;
-#[cfg(test)]
-mod mark_tests;
 mod marks;
 mod named;
 mod row_count;
@@ -26,8 +24,6 @@ mod shared;
 mod shared_rows;
 mod shared_tables;
 mod tables;
-#[cfg(test)]
-mod tests;
 mod uids;
 mod values;
 

@@ -1,5 +1,5 @@
-use super::*;
 use octets::Octets;
+use row_codec::{decode, encode};
 use row_tables::{FlagName, MailboxMessage, RowChange};
 use std::alloc::{AllocError, Global};
 use std::test::Fail;
