@@ -14,6 +14,7 @@ use Rattle.mime_tree.specs.Sizes.{nodes, nodes_in, nodes_of}
 use Rattle.header_reader.specs.Fields.{header}
 use Rattle.header_reader.specs.Faults.{fault_of}
 use Rattle.transfer_codec.specs.Layout.{decoded64}
+use Rattle.std.specs.Prelude.{IfErr}
 use Rattle.mime_reader.specs.declared.faults.ReadFault.{ReadFault}
 use Rattle.mime_reader.specs.declared.faults.ReadFault.TheVariants.{Unreadable, NoMemory}
 use Rattle.mime_reader.specs.declared.kinds.BodyKind.{BodyKind}
@@ -211,3 +212,8 @@ none_is f n (t ∷ ts) e = absurd (omega arith)
 pub fails_gives : (fault : ReadFault) (expected : Result Tree Reason) → Fails fault expected → Gives (Err fault) expected
 fails_gives (Unreadable reason) expected h = h
 fails_gives NoMemory expected h = tt
+
+-- What holds whatever the answer is.
+pub whatever_fault : {A P : Type 0} (r : Result A ReadFault) → P → IfErr r (λ fault. fault ≡ NoMemory → P)
+whatever_fault (Ok x) p = tt
+whatever_fault (Err fault) p = λ _. p

@@ -1,8 +1,9 @@
 -- What the steps of a reader answer.
-use Rattle.std.specs.Prelude.{◌≡◌, ℕ, ◌+◌, Option, Some, None, Result, Ok, Err}
+use Rattle.std.specs.Prelude.{◌≡◌, ℕ, ◌+◌, ◌<◌, true, List, length, Option, Some, None, Result, Ok, Err}
 use Rattle.mime_tree.specs.declared.reasons.Reason.{Reason}
 use Rattle.mime_reader.specs.declared.faults.ReadFault.{ReadFault}
 use Rattle.mime_reader.specs.declared.faults.ReadFault.TheVariants.{Unreadable, NoMemory}
+use Rattle.mime_reader.specs.Bodies.{is_usable, parts}
 
 -- A fault that is this outcome, unless memory ran out.
 abbrev pub Fails : {A : Type 0} → ReadFault → Result A Reason → Type 0
@@ -23,3 +24,8 @@ Answers view size old new (Err fault) expected = Fails fault expected
 abbrev pub Tells : ReadFault → Option Reason → Type 0
 Tells (Unreadable reason) expected = expected ≡ Some reason
 Tells NoMemory expected = expected ≡ None
+
+-- The body of a multipart that has parts: its boundary can be used, and a delimiter stands in it.
+pub record CanBeCut (enclosing : List (List ℕ)) (boundary text : List ℕ) : Type 0 where
+  pub usable : is_usable enclosing boundary ≡ true
+  pub some : 0 < length (parts boundary text)

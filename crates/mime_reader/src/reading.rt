@@ -10,7 +10,7 @@ ghost use Rattle.header_reader.specs.Values.{read_field as read_field_of};
 ghost use Rattle.mime_reader.specs.Cutting.{texts};
 ghost use Rattle.mime_reader.specs.Kinds.{body_kind as body_kind_of};
 ghost use Rattle.mime_reader.specs.Reading.{BeginsMessage, Gives, IsMessage, ReadingLaws, body_of, fields_in, leaf_of, outcome, read, read_body as read_body_of, read_multipart as read_multipart_of, read_parts as read_parts_of};
-ghost use Rattle.mime_reader.specs.Steps.{Answers, Comes, Tells};
+ghost use Rattle.mime_reader.specs.Steps.{Answers, CanBeCut, Comes, Tells};
 
 use crate::bodies::{behind_delimiter, first_piece, is_usable};
 use crate::faults::ReadFault;
@@ -250,7 +250,8 @@ fn read_multipart(
     text: &[u8],
 ) -> Result<Body, ReadFault>
     requires { IsCrlf text.now }
-    ensures { Answers content_of nodes_in number.old number.new result (read_body_of (read levels) enclosing.now (BodyKind.Multipart (Some boundary) digest) number.old text.now) }
+    ensures answers { Answers content_of nodes_in number.old number.new result (read_body_of (read levels) enclosing.now (BodyKind.Multipart (Some boundary) digest) number.old text.now) }
+    ensures told { IfErr result (λ fault. fault ≡ ReadFault.NoMemory → CanBeCut enclosing.now boundary text.now) }
 {
     if !is_usable(enclosing, boundary.as_slice()) {
         return Err(ReadFault::Unreadable(Reason::NoBoundary));

@@ -1,13 +1,14 @@
-use Rattle.std.proofs.Common.{◌≡◌, ◌+◌, ℕ, List, ◌∷◌, Bor, Option, Ok, sym, ◌∙◌, ap, subst, arith}
+use Rattle.std.proofs.Common.{◌≡◌, ◌+◌, ◌<◌, true, length, ℕ, List, ◌∷◌, Bor, Option, Ok, sym, ◌∙◌, ap, subst, arith}
 use Rattle.std.proofs.lemmas.List.{take_rest}
 use Rattle.std.specs.Option.{option_map}
 use Rattle.mail_text.specs.Lines.{IsCrlf}
 use Rattle.mime_tree.specs.Contents.{content_of, trees_of}
 use Rattle.mime_tree.specs.Sizes.{nodes_of}
 use Rattle.mime_reader.specs.Reading.{read, read_parts}
+use Rattle.mime_reader.specs.Bodies.{is_usable, parts}
 use Rattle.mime_reader.specs.Cutting.{texts}
 use Rattle.mime_reader.proofs.CutLemmas.{left_texts, piece_first, piece_crlf, left_crlf, texts_some}
-use Rattle.mime_reader.proofs.ReaderLemmas.{AreRead, read_deep, read_many, node_header_fails, node_body_fails, node_reads, read_more, read_all, multi_answers}
+use Rattle.mime_reader.proofs.ReaderLemmas.{AreRead, read_deep, read_many, node_header_fails, node_body_fails, node_reads, whatever_fault, read_more, read_all, multi_answers}
 use Rattle.mime_reader.proofs.reading.+reader.Goals as goal
 
 pub read_node-returns-then-levels-eq0 : goal.read_node-returns-then-levels-eq0
@@ -85,3 +86,12 @@ read_inner-returns-in-Ok-read_parts t c =
     multi_answers (f (c.args.boundary ∷ c.args.enclosing.now)) n new (texts c.args.boundary text) done (texts_some c.args.boundary text)
     (subst (λ es. (read_parts (f es) n (texts c.args.boundary text) ≡ Ok (trees_of done)) × (new ≡ n + nodes_of (trees_of done))) same
     (subst (λ b. (read_parts (f c.deref.result.now) n (texts b text) ≡ Ok (trees_of done)) × (new ≡ n + nodes_of (trees_of done))) c.as_slice-own.ensures c.in-Ok-read_parts.ensures))
+
+pub read_multipart-returns-in-Some-clause-told : goal.read_multipart-returns-in-Some-clause-told
+read_multipart-returns-in-Some-clause-told t c =
+    let text = c.args.text.now in
+    whatever_fault c.read_inner.result (record {
+      usable = subst (λ b. is_usable c.args.enclosing.now b ≡ true) c.as_slice.ensures (sym c.is_usable.ensures ∙ c.if-not-is_usable.false);
+      some = subst (λ b. 0 < length (parts b text)) c.as_slice-2.ensures
+          (subst (λ ps. 0 < length ps) (sym c.in-Some.ensures.0) (texts_some c.as_slice-2.result.now c.in-Some.rest.now));
+    })
