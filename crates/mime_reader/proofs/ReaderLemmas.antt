@@ -4,10 +4,10 @@ use Rattle.std.proofs.lemmas.Bool.{cond-true, cond-false, lt-ltb, le-ltb}
 use Rattle.mail_text.specs.Lines.{lines}
 use Rattle.mime_tree.specs.declared.values.Field.{Field}
 use Rattle.mime_tree.specs.declared.reasons.Reason.{Reason}
-use Rattle.mime_tree.specs.declared.reasons.Reason.TheVariants.{NoBoundary, NoDelimiter, TooDeep, TooMany}
+use Rattle.mime_tree.specs.declared.reasons.Reason.TheVariants.{TooDeep, TooMany}
 use Rattle.mime_tree.specs.Trees.{Tree, Content, Trees}
 use Rattle.mime_tree.specs.Trees.Tree.{node}
-use Rattle.mime_tree.specs.Trees.Content.{multi, nested}
+use Rattle.mime_tree.specs.Trees.Content.{multi}
 use Rattle.mime_tree.specs.Trees.Trees.{none, more}
 use Rattle.mime_tree.specs.Contents.{trees_of}
 use Rattle.mime_tree.specs.Sizes.{nodes, nodes_in, nodes_of}
@@ -18,10 +18,8 @@ use Rattle.std.specs.Prelude.{IfErr}
 use Rattle.mime_reader.specs.declared.faults.ReadFault.{ReadFault}
 use Rattle.mime_reader.specs.declared.faults.ReadFault.TheVariants.{Unreadable, NoMemory}
 use Rattle.mime_reader.specs.declared.kinds.BodyKind.{BodyKind}
-use Rattle.mime_reader.specs.declared.kinds.BodyKind.TheVariants.{Multipart, Embedded}
 use Rattle.mime_reader.specs.Kinds.{body_kind}
-use Rattle.mime_reader.specs.Bodies.{parts, is_usable}
-use Rattle.mime_reader.specs.Reading.{and_then, unless, or_plain, leaf_of, Reader, read_parts, read_multipart, read_body, fields_in, body_of, read, most_nodes, Gives}
+use Rattle.mime_reader.specs.Reading.{and_then, unless, or_plain, leaf_of, read_parts, read_multipart, read_body, fields_in, body_of, read, most_nodes, Gives}
 use Rattle.mime_reader.specs.Steps.{Fails, Tells}
 
 pub read_deep : (levels : ℕ) (es : List (List ℕ)) (d : Bool) (n : ℕ) (text : List ℕ) → levels ≡ 0 → read levels es d n text ≡ Err TooDeep
@@ -112,27 +110,6 @@ leaf_nodes true text = of (decoded64 text)
     of None = refl
     of (Some bytes) = refl
 
-pub leaf_answers : (n : ℕ) (base64 : Bool) (text : List ℕ) (content : Content) → content ≡ leaf_of base64 text →
-    (◌≡◌ {A = Result Content Reason} (Ok (leaf_of base64 text)) (Ok content)) × (n ≡ n + nodes_in content)
-leaf_answers n base64 text content e = (ap Ok (sym e), omega (arith, ap nodes_in e, leaf_nodes base64 text))
-
--- A message within.
-pub nested_answers : (read : Reader) (es : List (List ℕ)) (n new : ℕ) (text : List ℕ) (tree : Tree) (content : Content) → content ≡ nested tree →
-    (read es false n text ≡ Ok tree) × (new ≡ n + nodes tree) →
-    (read_body read es Embedded n text ≡ Ok content) × (new ≡ n + nodes_in content)
-nested_answers read es n new text tree content e h = (
-  ap (λ r. and_then r (λ tree. Ok (nested tree))) h.0 ∙ ap Ok (sym e),
-  omega (arith, h.1, ap nodes_in e),
-)
-
-pub usable_is : (read : Reader) (es : List (List ℕ)) (b : List ℕ) (d : Bool) (n : ℕ) (text : List ℕ) → is_usable es b ≡ true →
-    read_body read es (Multipart (Some b) d) n text ≡ read_multipart (read (b ∷ es) d) n (parts b text)
-usable_is read es b d n text is = cond-true (is_usable es b) (read_multipart (read (b ∷ es) d) n (parts b text)) (Err NoBoundary) is
-
-pub unusable_is : (read : Reader) (es : List (List ℕ)) (b : List ℕ) (d : Bool) (n : ℕ) (text : List ℕ) → is_usable es b ≡ false →
-    read_body read es (Multipart (Some b) d) n text ≡ Err NoBoundary
-unusable_is read es b d n text isnt = cond-false (is_usable es b) (read_multipart (read (b ∷ es) d) n (parts b text)) (Err NoBoundary) isnt
-
 -- Parts, those that were read and those that are left.
 abbrev pub ahead_of : List Tree → Trees → Trees
 ahead_of [] trees = trees
@@ -167,9 +144,6 @@ pub record AreRead (f : ℕ → List ℕ → Result Tree Reason) (old new : ℕ)
   pub number : new ≡ old + nodes_of (trees_of done)
 
 module _ (f : ℕ → List ℕ → Result Tree Reason) (old : ℕ) (all : List (List ℕ)) where
-  pub read_none : AreRead f old old [] all all
-  read_none = record { is = ahead_none (read_parts f old all); number = omega arith }
-
   pub read_more : (new newer : ℕ) (done : List Tree) (p : List ℕ) (left : List (List ℕ)) (t : Tree) → (f new p ≡ Ok t) × (newer ≡ new + nodes t) →
       AreRead f old new done (p ∷ left) all → AreRead f old newer (done ++ t ∷ []) left all
   read_more new newer done p left t h r = record {
@@ -177,13 +151,6 @@ module _ (f : ℕ → List ℕ → Result Tree Reason) (old : ℕ) (all : List (
         ∙ sym (ap (λ r. ahead_all done (and_then r (λ tree. and_then (read_parts f (new + nodes tree) left) (λ trees. Ok (more tree trees))))) h.0) ∙ r.is;
     number = omega (arith, h.1, r.number, nodes-snoc done t);
   }
-
-  pub read_fails : (fault : ReadFault) (new : ℕ) (done : List Tree) (p : List ℕ) (left : List (List ℕ)) → Fails fault (f new p) →
-      AreRead f old new done (p ∷ left) all → Fails fault (read_parts f old all)
-  read_fails fault new done p left h r =
-      fails_by fault (read_parts f old all) (ahead_all done (read_parts f new (p ∷ left))) (sym r.is)
-      (fails_then fault (read_parts f new (p ∷ left)) (λ trees. Ok (ahead_of done trees))
-      (fails_then fault (f new p) (λ tree. and_then (read_parts f (new + nodes tree) left) (λ trees. Ok (more tree trees))) h))
 
   pub read_all : (new : ℕ) (done : List Tree) → AreRead f old new done [] all → (read_parts f old all ≡ Ok (trees_of done)) × (new ≡ old + nodes_of (trees_of done))
   read_all new done r = (sym r.is ∙ ap Ok (ahead_end done), r.number)
@@ -197,16 +164,6 @@ pub multi_answers : (f : ℕ → List ℕ → Result Tree Reason) (n new : ℕ) 
     (read_parts f n texts ≡ Ok (trees_of done)) × (new ≡ n + nodes_of (trees_of done)) →
     (read_multipart f n texts ≡ Ok (multi (trees_of done))) × (new ≡ n + nodes_in (multi (trees_of done)))
 multi_answers f n new texts done some h = (some_is f n texts some ∙ ap (λ r. and_then r (λ trees. Ok (multi trees))) h.0, h.1)
-
-pub multi_fails : (fault : ReadFault) (f : ℕ → List ℕ → Result Tree Reason) (n : ℕ) (texts : List (List ℕ)) → 0 < length texts →
-    Fails fault (read_parts f n texts) → Fails fault (read_multipart f n texts)
-multi_fails fault f n texts some h =
-    fails_by fault (read_multipart f n texts) (and_then (read_parts f n texts) (λ trees. Ok (multi trees))) (some_is f n texts some)
-    (fails_then fault (read_parts f n texts) (λ trees. Ok (multi trees)) h)
-
-pub none_is : (f : ℕ → List ℕ → Result Tree Reason) (n : ℕ) (texts : List (List ℕ)) → length texts ≡ 0 → read_multipart f n texts ≡ Err NoDelimiter
-none_is f n [] e = refl
-none_is f n (t ∷ ts) e = absurd (omega arith)
 
 -- The answer of a whole message.
 pub fails_gives : (fault : ReadFault) (expected : Result Tree Reason) → Fails fault expected → Gives (Err fault) expected
