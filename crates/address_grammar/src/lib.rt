@@ -14,5 +14,5 @@ mod reading;
 
 pub use ids::{print_ids, read_ids};
 pub use laws::{law_addresses, law_ids, law_weights};
-pub use printing::print;
+pub use printing::{is_bare, print};
 pub use reading::read;

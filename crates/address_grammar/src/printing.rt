@@ -135,8 +135,8 @@ fn append_escaped_byte(out: &mut Vec<u8>, b: u8) -> Result<(), AllocError>
     Ok(())
 }
 
-/// Whether a text is atoms with single bytes of this kind between.
-fn is_bare(between: u8, text: &[u8]) -> bool
+/// Whether a text is atoms with single bytes of this kind between: it is printed as it stands, and any other in quotes.
+pub fn is_bare(between: u8, text: &[u8]) -> bool
     ensures { result ≡ is_bare_of between text.now }
 {
     let mut begun = false;

@@ -1,14 +1,11 @@
 -- How long prints are, part by part.
-use Rattle.std.proofs.Common.{◌≡◌, ℕ, zero, suc, ◌+◌, ◌*◌, ◌/◌, ◌<◌, ◌≤◌, List, [], ◌∷◌, ◌++◌, length, get_or, take, drop, refl, sym, ◌∙◌, ap, arith}
-use Rattle.std.specs.List.{flat_map}
-use Rattle.std.proofs.lemmas.List.{length-append, length-take, length-drop, drop_more, append_assoc}
-use Rattle.base64.specs.Rfc4648.{encode_symbols, encode_group, padding_len}
+use Rattle.std.proofs.Common.{◌≡◌, ℕ, ◌+◌, ◌-◌, ◌^◌, ◌<◌, inl, inr, Option, Some, None, List, [], ◌∷◌, ◌++◌, length, get_or, drop, sym, ◌∙◌, ap, arith}
+use Rattle.std.specs.Option.{SomeIff, unwrap_or}
+use Rattle.std.proofs.lemmas.Bool.{cases_lt}
+use Rattle.std.proofs.lemmas.List.{length-append, drop_more, append_assoc}
 use Rattle.mime_tree.specs.declared.values.Field.{Field}
 use Rattle.mime_tree.specs.Trees.{Tree}
 use Rattle.mime_tree.specs.Contents.{trees_of}
-use Rattle.transfer_codec.specs.Base64.{letters, base64}
-use Rattle.transfer_codec.specs.Layout.{cut, printed64}
-use Rattle.transfer_codec.specs.Layout.{ended as ended_line}
 use Rattle.mime_reader.specs.Bodies.{delimiter, closing}
 use Rattle.canon_writer.specs.Folding.{field_lines}
 use Rattle.canon_writer.specs.Counting.{capped}
@@ -54,37 +51,10 @@ pub last_part : (boundary : List ℕ) (size around : ℕ) → around ≡ capped 
     capped (size + around) ≡ capped (size + length (print_parts boundary (trees_of [])))
 last_part boundary size around e = omega (arith, parts-none boundary)
 
--- Base64
-
-base64_more : (a b c : ℕ) (rest : List ℕ) → base64 (a ∷ b ∷ c ∷ rest) ≡ encode_group letters a b c ++ base64 rest
-unfolding encode_symbols
-base64_more a b c rest =
-    let n = length rest in
-    let same : padding_len (suc (suc (suc n))) ≡ padding_len n = omega arith in
-    rw same refl
-
-length-base64 : (bytes : List ℕ) → length (base64 bytes) ≡ (length bytes + 2) / 3 * 4
-unfolding encode_symbols
-length-base64 [] = refl
-length-base64 (a ∷ []) = refl
-length-base64 (a ∷ b ∷ []) = refl
-length-base64 (a ∷ b ∷ c ∷ rest) = ap length (base64_more a b c rest) ∙ (let more : suc (suc (suc (suc (length (base64 rest))))) ≡ (suc (suc (suc (length rest))) + 2) / 3 * 4 = omega (arith, length-base64 rest) in more)
-
-cut-size : (turns : ℕ) (text : List ℕ) → length text ≤ turns → length (flat_map ended_line (cut 76 turns text)) ≡ length text + (length text + 75) / 76 * 2
-cut-size turns [] h = refl
-cut-size zero (c ∷ cs) h = absurd (omega arith)
-cut-size (suc turns) (c ∷ cs) h =
-    let text = c ∷ cs in
-    let line = take 76 text in
-    let rest = drop 76 text in
-    let later = cut-size turns rest (omega (arith, length-drop 76 text)) in
-    omega (arith, later, length-append (ended_line line) (flat_map ended_line (cut 76 turns rest)), length-append line (13 ∷ 10 ∷ []), length-take 76 text, length-drop 76 text)
-
-lines_count : (n : ℕ) → ((n + 2) / 3 * 4 + 75) / 76 ≡ (n + 56) / 57
-lines_count n = omega arith
-
-pub length-printed64 : (bytes : List ℕ) → length (printed64 bytes) ≡ (length bytes + 2) / 3 * 4 + (length bytes + 56) / 57 * 2
-unfolding printed64
-length-printed64 bytes =
-    cut-size (length (base64 bytes)) (base64 bytes) (omega arith)
-    ∙ ap (λ n. n + (n + 75) / 76 * 2) (length-base64 bytes) ∙ ap (λ n. (length bytes + 2) / 3 * 4 + n * 2) (lines_count (length bytes))
+-- A size that is told where there is one.
+pub size_or_most : (found : Option ℕ) (size : ℕ) → SomeIff found (size < 2 ^ 64) size → unwrap_or found (2 ^ 64 - 1) ≡ capped size
+size_or_most None size isnt = elim (cases_lt size (2 ^ 64)) [
+  | inl less ↦ absurd (isnt less)
+  | inr most ↦ omega arith
+]
+size_or_most (Some n) size (less, is) = omega arith

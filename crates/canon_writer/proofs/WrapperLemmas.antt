@@ -1,23 +1,18 @@
 -- The print of a wrapper is read as the wrapper.
-use Rattle.std.proofs.Common.{◌≡◌, ℕ, ◌≤◌, true, false, List, [], ◌∷◌, ◌++◌, Some, option_map, refl, sym, ◌∙◌, ap, subst, arith}
+use Rattle.std.proofs.Common.{◌≡◌, ℕ, ◌≤◌, true, false, List, [], ◌∷◌, ◌++◌, Some, refl, sym, subst, arith}
 use Rattle.std.specs.Prelude.{codes}
 use Rattle.base64.specs.GeneralPurpose.{IsBytes}
 use Rattle.mail_text.specs.Lines.{has}
 use Rattle.mime_tree.specs.declared.values.Field.{Field}
-use Rattle.mime_tree.specs.declared.values.Value.TheVariants.{Date}
 use Rattle.mime_tree.specs.declared.trees.Encoding.TheVariants.{Plain, Base64}
 use Rattle.mime_tree.specs.declared.reasons.Reason.{Reason}
 use Rattle.mime_tree.specs.declared.reasons.Reason.TheVariants.{ZeroByte, LoneReturn, NoField, LongHeader, NoBoundary, NoDelimiter, TooDeep, TooMany}
 use Rattle.mime_tree.specs.Sizes.{nodes, levels}
 use Rattle.mime_tree.specs.Trees.Content.{leaf, multi}
 use Rattle.mime_tree.specs.Trees.Trees.{none, more}
-use Rattle.date_grammar.specs.Dates.{sent_date, IsFieldValue}
+use Rattle.date_grammar.specs.Dates.{IsFieldValue}
 use Rattle.transfer_codec.specs.Layout.{printed64}
-use Rattle.header_reader.specs.declared.kinds.FieldKind.TheVariants.{Unstructured, DateTime}
-use Rattle.header_reader.specs.Kinds.{kind_of}
 use Rattle.header_reader.specs.Faults.{header_size, longest_header}
-use Rattle.header_reader.specs.Good.{IsGood}
-use Rattle.header_reader.specs.Values.{typed, or_text}
 use Rattle.mime_reader.specs.declared.kinds.BodyKind.TheVariants.{Multipart, Single}
 use Rattle.mime_reader.specs.ContentTypes.{parameters_behind}
 use Rattle.mime_reader.specs.Kinds.{body_kind, boundary_of, type_of, has_encoding}

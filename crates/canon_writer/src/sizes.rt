@@ -10,6 +10,7 @@ use crate::counting::named;
 use crate::value_sizes::with_value;
 use mime_reader::boundary_size;
 use mime_tree::{Body, Encoding, Field, Message};
+use transfer_codec::{law_base64, printed64_len};
 
 /// How long the canonical text of a message is; `usize::MAX` where it is longer. Takes no memory, and time with what is printed.
 #[cycle(sizing)]
@@ -86,10 +87,10 @@ fn leaf_size(encoding: Encoding, bytes: &[u8]) -> usize
     }
 }
 
-/// Four letters for three bytes, and a line end for each 57 bytes.
+/// How long the base64 of bytes is in lines.
 fn base64_size(bytes: &[u8]) -> usize
     ensures { result ≡ capped (length (print_leaf Encoding.Base64 bytes.now)) }
 {
-    let size = bytes.len();
-    size.div_ceil(3) * 4 + size.div_ceil(57) * 2
+    law_base64();
+    printed64_len(bytes.len()).unwrap_or(usize::MAX)
 }

@@ -1,11 +1,11 @@
 //! The values of fields, counted piece by piece from where they stand.
 ghost use Rattle.std.specs.Prelude.{◌≡◌, ◌++◌};
-ghost use Rattle.address_grammar.specs.Pieces.{is_atom as is_atom_of};
-ghost use Rattle.address_grammar.specs.Printing.{address_text, addr_text, bare_or_quoted, escaped, escaped_byte, is_bare as is_bare_of};
+ghost use Rattle.address_grammar.specs.Printing.{address_text, addr_text, bare_or_quoted, escaped, escaped_byte};
 ghost use Rattle.canon_writer.specs.Counting.{between_behind as between_behind_of, ids_behind, item_behind, items_behind, with_bytes as with_bytes_of};
 ghost use Rattle.canon_writer.specs.Printing.{value_text};
 
 use crate::counting::{FieldSize, with_bytes};
+use address_grammar::is_bare;
 use mime_tree::{Item, Value};
 use octets::Octets;
 
@@ -126,37 +126,4 @@ fn with_escaped_byte(field: FieldSize, b: u8) -> FieldSize
         return with_bytes(field, &[b'\\', b]);
     }
     with_bytes(field, &[b])
-}
-
-/// Whether a text is atoms with single bytes of this kind between.
-fn is_bare(between: u8, text: &[u8]) -> bool
-    ensures { result ≡ is_bare_of between text.now }
-{
-    let mut begun = false;
-    for b in text {
-        if *b == between {
-            if !begun {
-                return false;
-            }
-            begun = false;
-            continue;
-        }
-        if !is_atom(*b) {
-            return false;
-        }
-        begun = true;
-    }
-    begun
-}
-
-/// Whether a byte stands in an atom (RFC 5322 §3.2.3). Those that are not ASCII do.
-fn is_atom(b: u8) -> bool
-    ensures { result ≡ is_atom_of b }
-{
-    b.is_ascii_alphanumeric()
-        || b > 127
-        || matches!(
-            b,
-            b'!' | b'#'..=b'\'' | b'*' | b'+' | b'-' | b'/' | b'=' | b'?' | b'^'..=b'`' | b'{'..=b'~'
-        )
 }
