@@ -1,14 +1,12 @@
 -- What the text of a script says, and the lines of its sessions.
-use Rattle.std.proofs.Common.{◌≡◌, ℕ, zero, suc, ◌+◌, ◌<◌, ◌≤◌, Bool, true, false, cond, nat_lt, nat_le, List, [], ◌∷◌, ◌++◌, length, get_or, map, refl, sym, ◌∙◌, ap, arith, length-append, subst}
-use Rattle.std.specs.Prelude.{Option, Some, None, Result, flat_map}
+use Rattle.std.proofs.Common.{◌≡◌, ℕ, zero, suc, ◌+◌, ◌<◌, ◌≤◌, Bool, true, false, nat_lt, nat_le, List, [], ◌∷◌, ◌++◌, length, get_or, map, refl, sym, ◌∙◌, ap, arith, length-append}
+use Rattle.std.specs.Prelude.{Option, Some, None, flat_map}
 use Rattle.std.specs.List.{range_with_len}
 use Rattle.std.proofs.lemmas.List.{append-nil}
 use Rattle.std.proofs.lemmas.Grind.{flat_map-append}
 use Rattle.std.proofs.lemmas.Bool.Decides.{nat_tests}
-use Rattle.port_model.specs.declared.events.Event.{Event}
-use Rattle.port_model.specs.Script.{script_events}
 use Rattle.port_model.specs.Transcript.{session_lines}
-use Rattle.mail_server.specs.Run.{ReadsUpTo, End, limit_of, end_of, end_of_long, end_of_text, end_of_events, transcript_of}
+use Rattle.mail_server.specs.Run.{ReadsUpTo, End, limit_of, end_of, end_of_long, end_of_text, transcript_of}
 use Rattle.mail_server.specs.declared.words.Task.{Task}
 use Rattle.mail_server.specs.declared.words.Task.TheVariants.{Script, Canon}
 use Rattle.mail_server.specs.declared.status.Status.TheVariants.{Done}

@@ -97,11 +97,11 @@ pub made : {K D : Type 0} (written : K → Option (List ℕ)) (faults : K → �
 made {D = D} written faults told old new unloaded status sink sure reads tells none done how memory fault left others nothing = record {
   ends = elim how [
     | inl e ↦ subst Ends (sym e) (
-        holds-none (done e).0,
-        (done e).1,
-        counts-both told old unloaded.files new (tells.quiet (λ f. cc (f, (done e).0))) (done e).2,
-        refl,
-      )
+      holds-none (done e).0,
+      (done e).1,
+      counts-both told old unloaded.files new (tells.quiet (λ f. cc (f, (done e).0))) (done e).2,
+      refl,
+    )
     | inr (inl e) ↦ subst Ends (sym e) (subst (λ (files : Files D). CountsNoFault told old files) (sym (memory e).1) (tells.quiet (memory e).0), refl)
     | inr (inr e) ↦ subst Ends (sym e) (rose (fault e), refl)
   ];

@@ -1,5 +1,5 @@
 -- What a run of the server answers, reads and writes.
-use Rattle.std.specs.Prelude.{ℕ, ◌≡◌, ◌≤◌, ◌+◌, nat_lt, List, [], ◌∷◌, ◌++◌, Option, Some, None, Result, Ok, Err, IfSome, IfOk, IsSomeAnd, length, flat_map, codes, decimal, if◌then◌else◌}
+use Rattle.std.specs.Prelude.{ℕ, ◌≡◌, ◌≤◌, ◌+◌, nat_lt, List, [], ◌++◌, Option, Some, None, Result, Ok, Err, IfSome, IfOk, IsSomeAnd, length, flat_map, codes, decimal, if◌then◌else◌}
 use Rattle.std.specs.List.{range_with_len}
 use Rattle.port_model.specs.declared.events.Event.{Event}
 use Rattle.port_model.specs.Script.{script_events}

@@ -1,6 +1,5 @@
 -- What the words of a run ask for.
 use Rattle.std.specs.Prelude.{ℕ, List, [], ◌∷◌, Option, Some, None, codes, bytes_eq, if◌then◌else◌}
-use Rattle.mail_server.specs.declared.words.Task.{Task}
 use Rattle.mail_server.specs.declared.words.Task.TheVariants.{Script, Canon}
 use Rattle.mail_server.specs.declared.words.Command.{Command}
 use Rattle.mail_server.specs.declared.words.Command.TheVariants.{OfText, Init, Tables}

@@ -25,9 +25,10 @@ use std::alloc::{AllocError, Global};
 /// each session was sent to `sink`, as lines in the form of `print_session`. A script with a bad line, or with more than
 /// 67,108,864 bytes, is answered with one line that says so, and nothing is done.
 ///
-/// `canon` reads a message from `source`, takes one reading of the clock, and writes the canonical text of the message,
-/// which went through rows of typed tables. Bytes that are no message are written as an attachment of a message that says
-/// why, which arrives at the moment of the reading. A message with more than 33,554,432 bytes is refused with one line.
+/// `canon` reads a message from `source`, takes one reading of the clock, and writes the canonical text of the message. It
+/// needs no store, and the message goes through no rows. Bytes that are no message are written as an attachment of a message
+/// that says why, which arrives at the moment of the reading. A message with more than 33,554,432 bytes is refused with one
+/// line.
 ///
 /// `init` makes an empty store in the files, unless they hold a store, which is refused with one line.
 ///

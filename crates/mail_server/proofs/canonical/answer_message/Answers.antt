@@ -1,4 +1,4 @@
-use Rattle.std.proofs.Common.{◌≡◌, refl, sym, subst, ap, ◌∙◌}
+use Rattle.std.proofs.Common.{refl, sym, subst, ap, ◌∙◌}
 use Rattle.mime_tree.specs.declared.reasons.Mail.{Mail}
 use Rattle.mail_server.specs.declared.words.Task.TheVariants.{Canon}
 use Rattle.mail_server.specs.declared.status.Status.TheVariants.{Done}

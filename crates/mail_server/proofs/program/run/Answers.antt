@@ -1,6 +1,4 @@
 use Rattle.mail_server.specs.Outside.{outside, tells_of}
-use Rattle.mail_server.specs.Words.{command_of}
-use Rattle.std.specs.Prelude.{map, string_bytes}
 use Rattle.mail_server.proofs.Answering.{unasked}
 use Rattle.mail_server.proofs.program.run.Goals as goal
 
