@@ -14,9 +14,9 @@ use Rattle.mail_server.specs.declared.words.Task.{Task}
 use Rattle.mail_server.specs.declared.words.Task.TheVariants.{Script, Canon}
 use Rattle.mail_server.specs.Does.{EndsRun}
 use Rattle.mail_server.specs.Outside.{Outside, Tells, WritesAll, StopsWriting, EndsWriting}
-use Rattle.mail_server.specs.Run.{End, IsAnswer, TakesMoment, AnswersAt, ReadsUpTo, ReadsSome, ReadsText, IsAtEnd, code_of, limit_of, end_of, end_of_long, end_of_text, end_of_events}
+use Rattle.mail_server.specs.Run.{End, IsAnswer, TakesMoment, AnswersAt, ReadsUpTo, ReadsSome, ReadsText, IsAtEnd, IsPlayedOut, code_of, limit_of, end_of, end_of_long, end_of_text, end_of_events}
 use Rattle.mail_server.specs.Texts.{IsText, TakesText, Answers, StopsAnswering, StopsReading, WantsMemory, ScriptEnds, CanonEnds, AnswersText}
-use Rattle.mail_server.proofs.Readings.{end-read, short-done}
+use Rattle.mail_server.proofs.Readings.{end-read, read-same, short-done}
 
 -- The statuses that texts give
 
@@ -49,9 +49,9 @@ abbrev Ends : {S K C : Type 0} → Tells S K C → Task → Status → Outside S
 Ends tells Script status old new = ScriptEnds tells status old new
 Ends tells Canon status old new = CanonEnds tells status old new
 
-answers-end : {S K C : Type 0} (tells : Tells S K C) (task : Task) (status : Status) (old new : Outside S K C) → Answers tells task status old new
-    → (status ≡ Done → IsAtEnd (tells.left new.source)) → Fits task status → Ends tells task status old new
-answers-end tells Script Done old new a end f = (a, end refl)
+answers-end : {S K C : Type 0} (tells : Tells S K C) (task : Task) (status : Status) (old new : Outside S K C) (a : Answers tells task status old new)
+    → (status ≡ Done → IsAtEnd (tells.left new.source) × (task ≡ Script → IsPlayedOut a.text)) → Fits task status → Ends tells task status old new
+answers-end tells Script Done old new a end f = (a, (end refl).0, (end refl).1 refl)
 answers-end tells Script BadScript old new a end f = a
 answers-end tells Script Usage old new a end f = f
 answers-end tells Script NoMemory old new a end f = absurd f
@@ -60,7 +60,7 @@ answers-end tells Script WriteFault old new a end f = absurd f
 answers-end tells Script StoreFault old new a end f = f
 answers-end tells Script NotAStore old new a end f = f
 answers-end tells Script Refused old new a end f = f
-answers-end tells Canon Done old new a end f = (a, end refl)
+answers-end tells Canon Done old new a end f = (a, (end refl).0)
 answers-end tells Canon Refused old new a end f = a
 answers-end tells Canon Usage old new a end f = f
 answers-end tells Canon NoMemory old new a end f = absurd f
@@ -84,9 +84,9 @@ wants-end tells Canon old new wants = wants
 
 -- The text that a source has, by what was read of it: it ends a run as what was read does.
 whole-text : (task : Task) (bytes : List ℕ) (old new : Option (List ℕ)) → ReadsUpTo (limit_of task) bytes old new
-    → (text : List ℕ) × IsText text old × ((now : ℕ) → end_of task bytes now ≡ end_of task text now)
-whole-text task bytes None new reads = (bytes, tt, λ now. refl)
-whole-text task bytes (Some all) new reads = (all, refl, λ now. end-read task all bytes now new reads)
+    → (text : List ℕ) × IsText text old × ((now : ℕ) → end_of task bytes now ≡ end_of task text now) × (length bytes ≤ limit_of task → text ≡ bytes)
+whole-text task bytes None new reads = (bytes, tt, (λ now. refl), (λ le. refl))
+whole-text task bytes (Some all) new reads = (all, refl, (λ now. end-read task all bytes now new reads), read-same (limit_of task) all bytes new reads)
 
 -- the tables hold for a task with what is kept however it ends
 of-task : {S K C D : Type 0} (tells : Tells S K C) (task : Task) (status : Status) (old new : Outside S K C) (files files' : Files D)
@@ -103,15 +103,15 @@ pub answered : {S K C D : Type 0} (tells : Tells S K C) (task : Task) (limit : �
     (old new : Outside S K C) (files files' : Files D) → limit ≡ limit_of task → text ≡ bytes → ReadsUpTo limit bytes (tells.left old.source) (tells.left new.source)
     → tells.read_faults new.source ≡ tells.read_faults old.source → AnswersAt tells.readings task text answer old.clock new.clock
     → MatchResult answer (λ answer. EndsWriting tells.written tells.write_faults answer.status answer.lines.items status old.sink new.sink) (λ error. (status ≡ NoMemory) × (new.sink ≡ old.sink))
-    → files' ≡ files → AnswersText tells task status old new files files'
-answered {S} {K} {C} tells task limit bytes text {E} answer status old new files files' bound whole read quiet at writes same =
-    of-task tells task status old new files files' (ends answer status at.2 writes) (record { bytes = bytes; taken = reads.taken; within = reads.within })
+    → (task ≡ Script → IfOk answer (λ answer. answer.status ≡ Done → IsPlayedOut text)) → files' ≡ files → AnswersText tells task status old new files files'
+answered {S} {K} {C} tells task limit bytes text {E} answer status old new files files' bound whole read quiet at writes plays same =
+    of-task tells task status old new files files' (ends answer status at.2 writes plays) (record { bytes = bytes; taken = reads.taken; within = reads.within })
     (script-clock tells.readings task at.0 old.clock new.clock at.1) same
   where
     reads : ReadsUpTo (limit_of task) bytes (tells.left old.source) (tells.left new.source)
     reads = subst (λ (n : ℕ). ReadsUpTo n bytes (tells.left old.source) (tells.left new.source)) bound read
 
-    all : (all : List ℕ) × IsText all (tells.left old.source) × ((now : ℕ) → end_of task bytes now ≡ end_of task all now)
+    all : (all : List ℕ) × IsText all (tells.left old.source) × ((now : ℕ) → end_of task bytes now ≡ end_of task all now) × (length bytes ≤ limit_of task → all ≡ bytes)
     all = whole-text task bytes (tells.left old.source) (tells.left new.source) reads
 
     takes : TakesText tells task all.0 at.0 old new
@@ -122,8 +122,8 @@ answered {S} {K} {C} tells task limit bytes text {E} answer status old new files
 
     ends : (answer : Result Answer E) (status : Status) → IfOk answer (λ answer. IsAnswer answer.status answer.lines.items (end_of task text at.0))
         → MatchResult answer (λ answer. EndsWriting tells.written tells.write_faults answer.status answer.lines.items status old.sink new.sink) (λ error. (status ≡ NoMemory) × (new.sink ≡ old.sink))
-        → Ends tells task status old new
-    ends (Ok answer) status is (inl done) =
+        → (task ≡ Script → IfOk answer (λ answer. answer.status ≡ Done → IsPlayedOut text)) → Ends tells task status old new
+    ends (Ok answer) status is (inl done) plays =
         let status_is : status ≡ (end_of task all.0 at.0).status = done.0 ∙ is.status_is ∙ ap (λ (e : End). e.status) same-end in
         let lines_are : answer.lines.items ≡ (end_of task all.0 at.0).lines = is.lines_are ∙ ap (λ (e : End). e.lines) same-end in
         let a : Answers tells task status old new = record {
@@ -134,8 +134,12 @@ answered {S} {K} {C} tells task limit bytes text {E} answer status old new files
           writes = subst (λ (lines : List ℕ). WritesAll tells.written tells.write_faults lines old.sink new.sink) lines_are done.1;
         } in
         answers-end tells task status old new a
-        (λ e. reads.to_end (short-done task bytes at.0 (sym e ∙ status_is ∙ sym (ap (λ (e : End). e.status) (all.2 at.0))))) (fits tells task status old new a)
-    ends (Ok answer) status is (inr stops) =
+        (λ e.
+        let short : length bytes ≤ limit_of task = short-done task bytes at.0 (sym e ∙ status_is ∙ sym (ap (λ (e : End). e.status) (all.2 at.0))) in (
+          reads.to_end short,
+          λ is_script. subst IsPlayedOut (whole ∙ sym (all.3 short)) (plays is_script (sym done.0 ∙ e)),
+        )) (fits tells task status old new a)
+    ends (Ok answer) status is (inr stops) plays =
         let lines_are : answer.lines.items ≡ (end_of task all.0 at.0).lines = is.lines_are ∙ ap (λ (e : End). e.lines) same-end in
         subst (λ (s : Status). Ends tells task s old new) (sym stops.0) (stops-end tells task old new (record {
           text = all.0;
@@ -143,7 +147,7 @@ answered {S} {K} {C} tells task limit bytes text {E} answer status old new files
           takes = takes;
           stops = subst (λ (lines : List ℕ). StopsWriting tells.written tells.write_faults lines old.sink new.sink) lines_are stops.1;
         }))
-    ends (Err error) status is none =
+    ends (Err error) status is none plays =
         subst (λ (s : Status). Ends tells task s old new) (sym none.0) (wants-end tells task old new (record { quiet = quiet; unwritten = none.1; clock = inr (at.0, at.1) }))
 
 -- A text could not be read.

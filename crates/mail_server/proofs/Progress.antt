@@ -18,9 +18,9 @@ use Rattle.mail_rounds.specs.Held.{Held, session_of, queue_of, Ascending}
 use Rattle.mail_rounds.specs.Calls.{Offers, Closes, Asks, Accepts, AcceptsBelow}
 use Rattle.mail_rounds.specs.Core.{first_world}
 use Rattle.mail_server.specs.Script.{script_machine}
-use Rattle.mail_rounds.specs.Serves.{Serves, Serving, Keeps, is_kept, FlushCalls, RoundCalls}
+use Rattle.mail_rounds.specs.Serves.{Serves, Answered, Serving, Keeps, is_kept, FlushCalls, RoundCalls}
 use Rattle.mail_rounds.specs.Serves.{is_lost}
-use Rattle.mail_server.specs.Rounds.{plan_of, left_in, is_empty, has_loss, offers, flush, take, reached, reached_by, script_sent}
+use Rattle.mail_server.specs.Rounds.{plan_of, left_in, is_empty, has_loss, offers, flush, take, played_by, script_history, reached, reached_by, script_sent, PlaysOut}
 use Rattle.mail_server.specs.OnScript.{IsLinked, AreNext, Leads, IsOn, IsSent, IsOnScript}
 use Rattle.mail_server.proofs.Reached.{offers-are, closes-are, flush-is, take-is, take-sends}
 use Rattle.mail_server.proofs.Scripts.{numbered-finds, number-found, leads-start, script-last}
@@ -411,10 +411,26 @@ unfolding reached_by
 last-turn script zero before got e = refl
 last-turn script (suc turns) before got e = rw e refl
 
+more-plays : (script : List Event) (turns : ℕ) (before : List PortCall) → left_in script before ≢ []
+    → played_by (suc turns) script before ≡ played_by turns script (take script (flush script before))
+unfolding played_by
+more-plays script turns before some = some-left (left_in script before) refl
+  where
+    some-left : (left : List Event) → left_in script before ≡ left
+        → cond (is_empty (left_in script before)) (flush script before) (played_by turns script (take script (flush script before))) ≡ played_by turns script (take script (flush script before))
+    some-left [] e = absurd (some e)
+    some-left (event ∷ later) e = rw e refl
+
+last-play : (script : List Event) (turns : ℕ) (before : List PortCall) → left_in script before ≡ [] → played_by turns script before ≡ flush script before
+unfolding played_by
+last-play script zero before e = refl
+last-play script (suc turns) before e = rw e refl
+
 sends-next : (script : List Event) (before later : List PortCall) (turns : ℕ) → RoundOn script before later → left_in script before ≢ []
-    → length (left_in script before) ≤ turns → reached_by turns script before (sent before) ≡ reached_by (length script) script [] (λ number. []) → IsSent script later
-sends-next script before later zero r some enough leads = absurd (omega (arith, not-empty (left_in script before) some, enough))
-sends-next script before later (suc turns) r some enough leads =
+    → length (left_in script before) ≤ turns → reached_by turns script before (sent before) ≡ reached_by (length script) script [] (λ number. [])
+    → played_by turns script before ≡ script_history script → IsSent script later
+sends-next script before later zero r some enough leads plays = absurd (omega (arith, not-empty (left_in script before) some, enough))
+sends-next script before later (suc turns) r some enough leads plays =
     let flushed_is : r.flushed ≡ flush script before = r.flush.is in
     let later_is : later ≡ take script (flush script before) = r.take_is ∙ ap (take script) flushed_is in
     let got : reached (flush script before) (sent before) ≡ sent later =
@@ -425,6 +441,7 @@ sends-next script before later (suc turns) r some enough leads =
       enough = let le : length (left_in script before) ≤ suc turns = enough in omega (arith, r.less, le);
       leads = ap₂ (λ (calls : List PortCall) (reach : ℕ → List ℕ). reached_by turns script calls reach) later_is (sym got)
           ∙ sym (more-turns script turns before (sent before) some) ∙ leads;
+      plays = ap (λ (calls : List PortCall). played_by turns script calls) later_is ∙ sym (more-plays script turns before some) ∙ plays;
     }
 
 -- The same for ports and servers
@@ -446,7 +463,7 @@ pub script_begins : (script : List Event) (ports : Scripted) (held : Held) → A
     → ports ≡ record { plan = plan_of script; calls = []; starved = false; starved_accepts = 0; starved_calls = 0 } → IsOnScript script ports held
 script_begins script ports held are serves e =
     subst (λ (p : Scripted). IsOnScript script p held) (sym e)
-    (record { told = refl; plan = refl; serves = serves; leads = on-start script are; sends = record { turns = length script; enough = omega arith; leads = refl }; numbers = subst (λ (n : ℕ). n < 2 ^ 32) (sym (script-last script)) are.numbers })
+    (record { told = refl; plan = refl; serves = serves; leads = on-start script are; sends = record { turns = length script; enough = omega arith; leads = refl; plays = refl }; numbers = subst (λ (n : ℕ). n < 2 ^ 32) (sym (script-last script)) are.numbers })
 
 serves-next : (ports ports' : Scripted) (held held' : Held) → ports.starved ≡ false → ports'.starved ≡ false → Keeps (told_history ports) held (told_history ports') held'
     → Serves first_world ports.calls held → Serves first_world ports'.calls held'
@@ -470,7 +487,7 @@ round_goes_on script ports ports' held held' calls keeps plan h plays on some =
         plan = plan';
         serves = serves-next ports ports' held held' on.told h keeps on.serves;
         leads = next.on;
-        sends = sends-next script ports.calls ports'.calls on.sends.turns next some' on.sends.enough on.sends.leads;
+        sends = sends-next script ports.calls ports'.calls on.sends.turns next some' on.sends.enough on.sends.leads on.sends.plays;
         numbers = on.numbers;
       },
       subst (λ (p : Plan). length (playing p ports'.calls).left < length (playing ports.plan ports.calls).left) (sym plan')
@@ -490,11 +507,16 @@ sent-is script got number reach whole = by_loss (has_loss number script) refl
     by_loss true h = rw h reach
     by_loss false h = rw h (whole h)
 
--- Once nothing is left and all is flushed, the sessions were sent what the script has.
+-- what was sent is a front of what the machine answered
+sent-front : (lost : Bool) (sent queue out : List ℕ) → Answered lost sent queue out → (rest : List ℕ) × (out ≡ sent ++ rest)
+sent-front true sent queue out a = (a.front refl).1
+sent-front false sent queue out a = (queue, sym (a.whole refl))
+
+-- Once nothing is left and all is flushed, the history plays the script to its end.
 pub script_ends : (script : List Event) (ports ports' : Scripted) (held held' : Held) → FlushCalls held (told_history ports) (told_history ports')
     → Keeps (told_history ports) held (told_history ports') held' → its_plan ports' ≡ its_plan ports → ports'.starved ≡ false → IsPlayed ports'.plan ports'.calls
     → IsOnScript script ports held → (playing ports.plan ports.calls).left ≡ []
-    → ((number : ℕ) → sent ports'.calls number ≡ script_sent script number) × (held'.last ≡ (script_machine script).last)
+    → PlaysOut script ports'.calls × (held'.last ≡ (script_machine script).last)
 script_ends script ports ports' held held' calls keeps plan h plays on done =
     let plan' : ports'.plan ≡ plan_of script = same_Some ports'.plan ports.plan plan ∙ on.plan in
     let told_calls : FlushCalls held (Some ports.calls) (Some ports'.calls) =
@@ -508,8 +530,16 @@ script_ends script ports ports' held held' calls keeps plan h plays on done =
     let reach : sent ports'.calls ≡ reached_by (length script) script [] (λ who. []) =
     sym (reached-sent script ports.calls ports'.calls flushed) ∙ ap (λ (f : List PortCall). reached f (sent ports.calls)) flushed.is
     ∙ sym (last-turn script on.sends.turns ports.calls (sent ports.calls) none) ∙ on.sends.leads in (
-      (λ number. sent-is script (sent ports'.calls number) number (ap (λ (f : ℕ → List ℕ). f number) reach)
-          (λ kept. flushed.all number (closed-bool (is_lost number (events ports'.calls)) (λ lost. true≢false (sym (flushed.on.losses.were number lost) ∙ kept)))
-          ∙ ap (λ (m : Machine). m.out number) whole)),
+      record {
+        rounds = flushed.is ∙ sym (last-play script on.sends.turns ports.calls none) ∙ on.sends.plays;
+        answered = subst (λ (p : Plan). IsPlayed p ports'.calls) plan' plays;
+        nothing_left = none';
+        machine = whole;
+        sends = λ number. sent-is script (sent ports'.calls number) number (ap (λ (f : ℕ → List ℕ). f number) reach)
+            (λ kept. flushed.all number (closed-bool (is_lost number (events ports'.calls)) (λ lost. true≢false (sym (flushed.on.losses.were number lost) ∙ kept)))
+            ∙ ap (λ (m : Machine). m.out number) whole);
+        front = λ number. subst (λ (m : Machine). (rest : List ℕ) × (m.out number ≡ sent ports'.calls number ++ rest)) whole
+            (sent-front (is_lost number (events ports'.calls)) (sent ports'.calls number) (queue_of number held'.links) ((after first_world ports'.calls).out number) (serves'.answered number));
+      },
       serves'.latest ∙ ap (λ (m : Machine). m.last) whole,
     )

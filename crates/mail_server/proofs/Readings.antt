@@ -19,6 +19,13 @@ pub end-short : (task : Task) (text : List ℕ) (now : ℕ) → length text ≤ 
 unfolding end_of
 end-short task text now le = let e : nat_lt (limit_of task) (length text) ≡ false = grind (arith, nat_tests, le) in rw e refl
 
+-- what was read and isn't too long is the whole text
+pub read-same : (limit : ℕ) (text bytes : List ℕ) (new : Option (List ℕ)) → ReadsUpTo limit bytes (Some text) new → length bytes ≤ limit → text ≡ bytes
+read-same limit text bytes None reads le = absurd reads.taken
+read-same limit text bytes (Some rest) reads le =
+    let e : rest ≡ [] = reads.to_end le in
+    reads.taken ∙ ap (λ r. bytes ++ r) e ∙ append-nil bytes
+
 -- what was read ends a run as the whole text does
 pub end-read : (task : Task) (text bytes : List ℕ) (now : ℕ) (new : Option (List ℕ)) → ReadsUpTo (limit_of task) bytes (Some text) new → end_of task bytes now ≡ end_of task text now
 end-read task text bytes now None reads = absurd reads.taken
@@ -27,9 +34,7 @@ end-read task text bytes now (Some rest) reads = by_length (nat_le (length bytes
     by_length : (b : Bool) → nat_le (length bytes) (limit_of task) ≡ b → end_of task bytes now ≡ end_of task text now
     by_length true is =
         let le : length bytes ≤ limit_of task = grind (arith, nat_tests, is) in
-        let e : rest ≡ [] = reads.to_end le in
-        let same : text ≡ bytes = reads.taken ∙ ap (λ r. bytes ++ r) e ∙ append-nil bytes in
-        ap (λ t. end_of task t now) (sym same)
+        ap (λ t. end_of task t now) (sym (read-same (limit_of task) text bytes (Some rest) reads le))
     by_length false is =
         let gt : limit_of task < length bytes = grind (arith, nat_tests, is) in
         end-long task bytes now gt ∙ sym (end-long task text now (omega (arith, gt, ap length reads.taken, length-append bytes rest)))

@@ -9,7 +9,7 @@ use Rattle.mail_model.specs.Machine.{Machine, Session, take_event, after}
 use Rattle.mail_rounds.specs.Held.{Held}
 use Rattle.mail_rounds.specs.Core.{first_world}
 use Rattle.mail_server.specs.Script.{script_machine, port_event, and_opened}
-use Rattle.mail_server.specs.Rounds.{plan_of, left_in, reached_by, has_loss}
+use Rattle.mail_server.specs.Rounds.{plan_of, left_in, played_by, script_history, reached_by, has_loss}
 use Rattle.mail_rounds.specs.Serves.{Serves, is_lost}
 
 -- a machine after the events that are left of a script
@@ -58,11 +58,12 @@ abbrev pub IsOn : List Event → List PortCall → Type 0
 IsOn script calls =
     Leads (left_in script calls) (is_closed calls) (λ number. has_loss number script) (λ number. is_lost number (events calls)) (after first_world calls) (script_machine script)
 
--- The rounds that are to come lead from what was sent so far to what whole rounds reach.
+-- The rounds that are to come lead from what was sent so far to what whole rounds reach, and from the calls so far to theirs.
 pub record IsSent (script : List Event) (calls : List PortCall) : Type 0 where
   pub turns : ℕ
   pub enough : length (left_in script calls) ≤ turns
   pub leads : reached_by turns script calls (sent calls) ≡ reached_by (length script) script [] (λ number. [])
+  pub plays : played_by turns script calls ≡ script_history script
 
 -- The ports recorded all calls, and the server holds what the machine has after them, in the middle of a script.
 pub record IsOnScript (events : List Event) (ports : Scripted) (held : Held) : Type 0 where

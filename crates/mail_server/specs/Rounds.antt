@@ -1,13 +1,13 @@
 -- The calls that rounds make on the ports of a script, told by the machine: in each round every session is offered what
 -- it was answered since, those whose session is over are closed, one new session at most is taken, and each open session
 -- is asked once.
-use Rattle.std.specs.Prelude.{ℕ, zero, suc, ◌+◌, ◌-◌, ◌^◌, ◌==◌, ◌&&◌, ◌||◌, not, nat_eq, Bool, true, false, List, [], ◌∷◌, Ok, length, drop, filter, if◌then◌else◌}
+use Rattle.std.specs.Prelude.{ℕ, ◌≡◌, zero, suc, ◌+◌, ◌-◌, ◌^◌, ◌==◌, ◌&&◌, ◌||◌, not, nat_eq, Bool, true, false, List, [], ◌∷◌, ◌++◌, Ok, length, drop, filter, if◌then◌else◌}
 use Rattle.port_model.specs.declared.events.Event.{Event}
 use Rattle.port_model.specs.declared.events.Event.TheVariants.{Opens, Piece, Ends, Loses}
 use Rattle.port_model.specs.declared.calls.PortCall.{PortCall}
 use Rattle.port_model.specs.declared.calls.PortCall.TheVariants.{Accept, Read, Send, Close}
 use Rattle.port_model.specs.History.{events, sent}
-use Rattle.port_model.specs.Playing.{Plan, playing, answer_to_accept, answer_to_read, answer_to_send}
+use Rattle.port_model.specs.Playing.{Plan, IsPlayed, playing, answer_to_accept, answer_to_read, answer_to_send}
 use Rattle.mail_model.specs.Machine.{Session, is_open, after}
 use Rattle.mail_rounds.specs.Calls.{clocked, read_room}
 use Rattle.mail_rounds.specs.Serves.{is_kept, is_lost}
@@ -74,6 +74,17 @@ take script calls =
     for_each (λ session. and_read script session.number (is_open session.standing && is_empty (unsent calls session.number))) (linked calls)
     (and_accept script (after first_world calls).last (nat_eq (after first_world calls).last (2 ^ 32 - 1)) calls)
 
+-- The calls of rounds as long as events are left, and of a last flush. Each round takes or skips an event, which bounds the
+-- turns.
+unfoldable pub played_by : ℕ → List Event → List PortCall → List PortCall
+played_by zero script calls = flush script calls
+played_by (suc turns) script calls =
+    if is_empty (left_in script calls) then flush script calls else played_by turns script (take script (flush script calls))
+
+-- the history of a script: all the calls of its rounds
+abbrev pub script_history : List Event → List PortCall
+script_history script = played_by (length script) script []
+
 -- What each session was answered at the end of the last flush that ended before its link was lost.
 abbrev pub reached : List PortCall → (ℕ → List ℕ) → ℕ → List ℕ
 reached flushed before number = if is_lost number (events flushed) then before number else (after first_world flushed).out number
@@ -102,3 +113,17 @@ has_loss number (event ∷ later) = is_loss_of number event || has_loss number l
 unfoldable pub script_sent : List Event → ℕ → List ℕ
 script_sent script number =
     if has_loss number script then reached_by (length script) script [] (λ who. []) number else (script_machine script).out number
+
+-- A history plays a script to its end.
+pub record PlaysOut (script : List Event) (calls : List PortCall) : Type 0 where
+  -- It is the one of the rounds on the script's ports, and nothing is left of the script: each event was taken or, being of a
+  -- session whose link is closed, skipped.
+  pub rounds : calls ≡ script_history script
+  pub answered : IsPlayed (plan_of script) calls
+  pub nothing_left : left_in script calls ≡ []
+  -- What came in it led the machine to where the script does.
+  pub machine : after first_world calls ≡ script_machine script
+  -- Each session was sent what the machine answers it; one whose link was lost, what it had been answered by the last flush
+  -- before, which is a front of that.
+  pub sends : (number : ℕ) → sent calls number ≡ script_sent script number
+  pub front : (number : ℕ) → (rest : List ℕ) × ((script_machine script).out number ≡ sent calls number ++ rest)

@@ -1,6 +1,7 @@
 -- What a run of the server answers, reads and writes.
 use Rattle.std.specs.Prelude.{ℕ, ◌≡◌, ◌≤◌, ◌+◌, nat_lt, List, [], ◌++◌, Option, Some, None, Result, Ok, Err, IfSome, IfOk, IsSomeAnd, length, flat_map, codes, decimal, if◌then◌else◌}
 use Rattle.std.specs.List.{range_with_len}
+use Rattle.port_model.specs.declared.calls.PortCall.{PortCall}
 use Rattle.port_model.specs.declared.events.Event.{Event}
 use Rattle.port_model.specs.Script.{script_events}
 use Rattle.port_model.specs.Streams.{Reads as IsReading}
@@ -13,7 +14,7 @@ use Rattle.mail_server.specs.declared.status.Status.TheVariants.{Done, Usage, No
 use Rattle.mail_server.specs.declared.words.Task.{Task}
 use Rattle.mail_server.specs.declared.words.Task.TheVariants.{Script, Canon}
 use Rattle.mail_server.specs.Script.{script_machine}
-use Rattle.mail_server.specs.Rounds.{script_sent}
+use Rattle.mail_server.specs.Rounds.{script_sent, PlaysOut}
 
 -- the number that the process ends with
 abbrev pub code_of : Status → ℕ
@@ -49,6 +50,13 @@ bad_line number = codes "bad line " ++ decimal number ++ codes "\n"
 abbrev pub end_of_events : Result (List Event) ℕ → End
 end_of_events (Ok events) = record { status = Done; lines = transcript events }
 end_of_events (Err number) = record { status = BadScript; lines = bad_line number }
+
+-- The text is a script, and a history plays it to its end.
+pub record IsPlayedOut (text : List ℕ) : Type 0 where
+  pub events : List Event
+  pub says : script_events text ≡ Ok events
+  pub calls : List PortCall
+  pub plays : PlaysOut events calls
 
 -- The word `canon`
 

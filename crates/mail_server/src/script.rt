@@ -1,12 +1,11 @@
 //! A script is played to its end.
 
 ghost use Rattle.std.specs.Prelude.{ℕ, ◌≡◌, false, [], OnOk, IfOk};
-ghost use Rattle.port_model.specs.History.{sent};
 ghost use Rattle.port_model.specs.Playing.{playing};
 ghost use Rattle.port_model.specs.Script.{AreEvents};
 ghost use Rattle.mail_rounds.specs.Held.{held};
 ghost use Rattle.mail_server.specs.OnScript.{IsOnScript};
-ghost use Rattle.mail_server.specs.Rounds.{script_sent};
+ghost use Rattle.mail_server.specs.Rounds.{PlaysOut};
 ghost use Rattle.mail_rounds.specs.Core.{first_world};
 ghost use Rattle.mail_server.specs.Script.{script_machine};
 ghost use Rattle.mail_rounds.specs.Serves.{Serves};
@@ -34,7 +33,7 @@ pub(crate) fn play<D>(
 ) -> (Result<Played, AllocError>, Files<D>)
     requires kept { AreEvents events.items }
     ensures recorded { IfOk result.0 (λ played. played.ports.starved ≡ false) }
-    ensures sent { IfOk result.0 (λ played. (number : ℕ) → sent played.ports.calls number ≡ script_sent events.items number) }
+    ensures plays { IfOk result.0 (λ played. PlaysOut events.items played.ports.calls) }
     ensures last { IfOk result.0 (λ played. played.last ≡ (script_machine events.items).last) }
     ensures files { result.1 ≡ files }
 {
@@ -59,7 +58,7 @@ fn play_on<D>(
     requires unspent { server.old.spent ≡ false }
     requires kept { AreEvents events.items }
     ensures recorded { IfOk result (λ played. played.ports.starved ≡ false) }
-    ensures sent { IfOk result (λ played. (number : ℕ) → sent played.ports.calls number ≡ script_sent events.items number) }
+    ensures plays { IfOk result (λ played. PlaysOut events.items played.ports.calls) }
     ensures last { IfOk result (λ played. played.last ≡ (script_machine events.items).last) }
     ensures files { server.new.files ≡ server.old.files }
 {

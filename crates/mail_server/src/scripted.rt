@@ -1,11 +1,13 @@
 //! What a script has written.
 
-ghost use Rattle.std.specs.Prelude.{ℕ, ◌≡◌, Ok, Err, IfOk, false};
+ghost use Rattle.std.specs.Prelude.{ℕ, ◌≡◌, List, Ok, Err, IfOk, false};
+ghost use Rattle.port_model.specs.declared.calls.PortCall.{PortCall};
 ghost use Rattle.port_model.specs.History.{sent};
 ghost use Rattle.port_model.specs.Script.{AreEvents};
 ghost use Rattle.mail_server.specs.declared.status.Status.TheVariants.{Done};
 ghost use Rattle.mail_server.specs.declared.words.Task.TheVariants.{Script};
-ghost use Rattle.mail_server.specs.Run.{End, IsAnswer, end_of_events, end_of, transcript_of, bad_line};
+ghost use Rattle.mail_server.specs.Rounds.{PlaysOut};
+ghost use Rattle.mail_server.specs.Run.{End, IsAnswer, IsPlayedOut, end_of_events, end_of, transcript_of, bad_line};
 
 use crate::answer::{Answer, one_line};
 use crate::script::{Played, play};
@@ -24,6 +26,7 @@ pub(crate) fn answer_script<D>(
     files: Files<D>,
 ) -> (Result<Answer, AllocError>, Files<D>)
     ensures answers { (now : ℕ) → IfOk result.0 (λ answer. IsAnswer answer.status answer.lines.items (end_of Script text.now now)) }
+    ensures plays { IfOk result.0 (λ answer. answer.status ≡ Done → IsPlayedOut text.now) }
     ensures files { result.1 ≡ files }
 {
     if text.len() > MOST_BYTES {
@@ -45,6 +48,7 @@ fn answer_events<D>(
 ) -> (Result<Answer, AllocError>, Files<D>)
     requires kept { AreEvents events.items }
     ensures answers { IfOk result.0 (λ answer. IsAnswer answer.status answer.lines.items (end_of_events (Ok events.items))) }
+    ensures plays { IfOk result.0 (λ _. (calls : List PortCall) × PlaysOut events.items calls) }
     ensures files { result.1 ≡ files }
 {
     let (played, files) = play(alloc, files, events);

@@ -1,12 +1,10 @@
 use Rattle.std.proofs.Common.{ℕ, ◌≡◌, false, List, [], sym, ap, ◌∙◌, subst}
 use Rattle.port_model.specs.declared.events.Event.{Event}
-use Rattle.port_model.specs.History.{sent}
 use Rattle.port_model.specs.ScriptPorts.{Scripted}
 use Rattle.mail_rounds.specs.Held.{held}
 use Rattle.mail_server.specs.OnScript.{IsOnScript}
-use Rattle.mail_server.specs.Rounds.{plan_of}
+use Rattle.mail_server.specs.Rounds.{plan_of, PlaysOut}
 use Rattle.mail_server.specs.Script.{script_machine}
-use Rattle.mail_server.specs.Rounds.{script_sent}
 use Rattle.mail_server.proofs.Progress.{script_begins, script_ends}
 use Rattle.mail_server.proofs.script.play_on.Goals as goal
 
@@ -18,16 +16,16 @@ run_rounds-requires-clause-on_script g c =
     (script_begins c.args.events.items c.in_ok-ports.ports (held c.args.server.now) c.requires.kept c.requires.fresh e)
 
 ended : (g : _) (c : goal.After-last g)
-    → ((number : ℕ) → sent c.flush.new.ports.calls number ≡ script_sent c.args.events.items number) × (c.flush.new.self.last ≡ (script_machine c.args.events.items).last)
+    → PlaysOut c.args.events.items c.flush.new.ports.calls × (c.flush.new.self.last ≡ (script_machine c.args.events.items).last)
 ended g c =
     let told : c.flush.new.ports.starved ≡ false = sym c.starved.ensures.starved ∙ c.if-starved.false in
     let its : c.in_ok-ports.ports.plan.events ≡ c.args.events.items = ap (λ (p : Scripted). p.plan.events) c.in_ok-ports.ensures in
-    subst (λ (script : List Event). ((number : ℕ) → sent c.flush.new.ports.calls number ≡ script_sent script number) × (c.flush.new.self.last ≡ (script_machine script).last)) its
+    subst (λ (script : List Event). PlaysOut script c.flush.new.ports.calls × (c.flush.new.self.last ≡ (script_machine script).last)) its
     (script_ends c.in_ok-ports.ports.plan.events c.run_rounds.new.ports c.flush.new.ports (held c.run_rounds.new.server) (held c.flush.new.self)
     c.flush.ensures.calls c.flush.ensures.keeps c.flush.ensures.plan told (c.starved.ensures.answers told) c.in_ok-run_rounds.ensures.on_script c.in_ok-run_rounds.ensures.done)
 
-pub returns-clause-sent : goal.returns-clause-sent
-returns-clause-sent g c = (ended g c).0
+pub returns-clause-plays : goal.returns-clause-plays
+returns-clause-plays g c = (ended g c).0
 
 pub returns-clause-last : goal.returns-clause-last
 returns-clause-last g c = c.last.ensures ∙ (ended g c).1
