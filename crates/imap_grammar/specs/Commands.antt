@@ -1,7 +1,7 @@
 -- What a unit is: a command with its tag, or none, with a tag or without.
-use Rattle.std.specs.Prelude.{◌≡◌, ℕ, List, Option, Some, None, Result, Ok, Err}
+use Rattle.std.specs.Prelude.{◌≡◌, ℕ, true, false, List, Option, Some, None, Result, Ok, Err}
 use Rattle.imap_grammar.specs.declared.commands.Command.{Command}
-use Rattle.imap_grammar.specs.declared.commands.Command.TheVariants.{Capability, Noop, Logout, Check, Close, Expunge}
+use Rattle.imap_grammar.specs.declared.commands.Command.TheVariants.{Capability, Noop, Logout, Check, Close, Expunge, Create, Delete, Subscribe, Unsubscribe}
 use Rattle.imap_grammar.specs.declared.commands.Tagged.{Tagged}
 use Rattle.imap_grammar.specs.declared.commands.Bad.{Bad}
 use Rattle.imap_grammar.specs.declared.commands.Bad.TheVariants.{WithTag, NoTag}
@@ -15,6 +15,7 @@ use Rattle.imap_grammar.specs.Strings.{some}
 use Rattle.imap_grammar.specs.Words.{keyword}
 use Rattle.imap_grammar.specs.Verbs.{verbs}
 use Rattle.imap_grammar.specs.Session.{alone, login, authenticate}
+use Rattle.imap_grammar.specs.Mailboxes.{named_mailbox, rename, listing, status}
 
 -- What stands behind the name of a command, up to its end.
 abbrev pub arguments : Verb → Reading Command
@@ -26,6 +27,14 @@ arguments verb.Close = alone Close
 arguments verb.Expunge = alone Expunge
 arguments verb.Login = login
 arguments verb.Authenticate = authenticate
+arguments verb.Create = named_mailbox Create
+arguments verb.Delete = named_mailbox Delete
+arguments verb.Subscribe = named_mailbox Subscribe
+arguments verb.Unsubscribe = named_mailbox Unsubscribe
+arguments verb.Rename = rename
+arguments verb.List = listing false
+arguments verb.Lsub = listing true
+arguments verb.Status = status
 
 -- A command without its tag.
 unfoldable pub command : Reading Command

@@ -7,4 +7,6 @@ pub mod Spellings
 pub mod Strings
 pub mod Verbs
 pub mod Session
+pub mod Lists
+pub mod Mailboxes
 pub mod Commands

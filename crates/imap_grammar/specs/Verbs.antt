@@ -1,7 +1,7 @@
 -- The names of commands.
 use Rattle.std.specs.Prelude.{ℕ, List, [], ◌∷◌, codes}
 use Rattle.imap_grammar.specs.declared.verbs.Verb.{Verb}
-use Rattle.imap_grammar.specs.declared.verbs.Verb.TheVariants.{Capability, Noop, Logout, Check, Close, Expunge, Login, Authenticate}
+use Rattle.imap_grammar.specs.declared.verbs.Verb.TheVariants.{Capability, Noop, Logout, Check, Close, Expunge, Login, Authenticate, Create, Delete, Subscribe, Unsubscribe, Rename, List as ListNames, Lsub, Status}
 
 abbrev pub verbs : List (List ℕ × Verb)
 verbs =
@@ -13,4 +13,12 @@ verbs =
     ∷ (codes "EXPUNGE", Expunge)
     ∷ (codes "LOGIN", Login)
     ∷ (codes "AUTHENTICATE", Authenticate)
+    ∷ (codes "CREATE", Create)
+    ∷ (codes "DELETE", Delete)
+    ∷ (codes "SUBSCRIBE", Subscribe)
+    ∷ (codes "UNSUBSCRIBE", Unsubscribe)
+    ∷ (codes "RENAME", Rename)
+    ∷ (codes "LIST", ListNames)
+    ∷ (codes "LSUB", Lsub)
+    ∷ (codes "STATUS", Status)
     ∷ []

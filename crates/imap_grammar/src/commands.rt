@@ -1,5 +1,7 @@
 //! What commands are.
+use crate::items::StatusItem;
 use octets::Octets;
+use sqlite_items::Items;
 
 /// A command with its arguments (RFC 3501 §6).
 #[derive(Debug, Drop)]
@@ -10,9 +12,31 @@ pub enum Command {
     Check,
     Close,
     Expunge,
-    Login { name: Octets, password: Octets },
+    Login {
+        name: Octets,
+        password: Octets,
+    },
     /// The mechanism, as it is written.
     Authenticate(Octets),
+    Create(Octets),
+    Delete(Octets),
+    Subscribe(Octets),
+    Unsubscribe(Octets),
+    Rename {
+        from: Octets,
+        to: Octets,
+    },
+    /// LIST, or LSUB where `subscribed`. The name may have wildcards.
+    List {
+        reference: Octets,
+        name: Octets,
+        subscribed: bool,
+    },
+    /// The items in the order asked, at least one.
+    Status {
+        name: Octets,
+        items: Items<StatusItem>,
+    },
 }
 
 /// A command with the tag that its answer is told with.

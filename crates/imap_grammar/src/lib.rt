@@ -5,6 +5,8 @@ mod classes;
 mod commands;
 mod flags;
 mod items;
+mod lists;
+mod mailboxes;
 mod parsing;
 mod reader;
 mod session;

@@ -5,6 +5,7 @@ ghost use Rattle.imap_grammar.specs.Readings.{Reads};
 
 use crate::classes::Class;
 use crate::commands::{Bad, Command, ParseFault, Tagged};
+use crate::mailboxes::{listing, one_name, rename, status};
 use crate::reader::{Fault, Reader};
 use crate::session::{alone, authenticate, login};
 use crate::spellings::Spelling;
@@ -72,5 +73,13 @@ fn arguments(alloc: Global, reader: &mut Reader<'_>, name: Verb) -> Result<Comma
         Verb::Expunge => alone(reader, Command::Expunge),
         Verb::Login => login(alloc, reader),
         Verb::Authenticate => authenticate(alloc, reader),
+        Verb::Create => Ok(Command::Create(one_name(alloc, reader)?)),
+        Verb::Delete => Ok(Command::Delete(one_name(alloc, reader)?)),
+        Verb::Subscribe => Ok(Command::Subscribe(one_name(alloc, reader)?)),
+        Verb::Unsubscribe => Ok(Command::Unsubscribe(one_name(alloc, reader)?)),
+        Verb::Rename => rename(alloc, reader),
+        Verb::List => listing(alloc, reader, false),
+        Verb::Lsub => listing(alloc, reader, true),
+        Verb::Status => status(alloc, reader),
     }
 }

@@ -16,9 +16,17 @@ pub(crate) enum Verb {
     Expunge,
     Login,
     Authenticate,
+    Create,
+    Delete,
+    Subscribe,
+    Unsubscribe,
+    Rename,
+    List,
+    Lsub,
+    Status,
 }
 
-const VERBS: [(&[u8], Verb); 8] = [
+const VERBS: [(&[u8], Verb); 16] = [
     (b"CAPABILITY", Verb::Capability),
     (b"NOOP", Verb::Noop),
     (b"LOGOUT", Verb::Logout),
@@ -27,6 +35,14 @@ const VERBS: [(&[u8], Verb); 8] = [
     (b"EXPUNGE", Verb::Expunge),
     (b"LOGIN", Verb::Login),
     (b"AUTHENTICATE", Verb::Authenticate),
+    (b"CREATE", Verb::Create),
+    (b"DELETE", Verb::Delete),
+    (b"SUBSCRIBE", Verb::Subscribe),
+    (b"UNSUBSCRIBE", Verb::Unsubscribe),
+    (b"RENAME", Verb::Rename),
+    (b"LIST", Verb::List),
+    (b"LSUB", Verb::Lsub),
+    (b"STATUS", Verb::Status),
 ];
 
 /// The name of a command.
