@@ -1,12 +1,13 @@
-pub mod Flags
-pub mod StatusItems
 pub mod Readings
 pub mod Classes
 pub mod Words
 pub mod Spellings
 pub mod Strings
+pub mod Lists
+pub mod Sets
+pub mod Flags
+pub mod StatusItems
 pub mod Verbs
 pub mod Session
-pub mod Lists
 pub mod Mailboxes
 pub mod Commands

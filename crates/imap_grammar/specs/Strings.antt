@@ -65,3 +65,11 @@ astring = string_or Astring
 -- A name with wildcards.
 abbrev pub pattern : Reading (List ℕ)
 pattern = string_or Pattern
+
+-- A number of 32 bits, from the given one.
+unfoldable pub number32 : ℕ → Reading ℕ
+number32 low = number low 4_294_967_295
+
+-- A mod-sequence, from the given one (RFC 4551 §4, mod-sequence-value).
+unfoldable pub modseq : ℕ → Reading ℕ
+modseq low = number low 18_446_744_073_709_551_614

@@ -105,3 +105,23 @@ pub(crate) fn string_or<'a>(reader: &mut Reader<'a>, class: Class) -> Result<Spe
         some(reader, class)
     }
 }
+
+/// A number of 32 bits.
+#[tactic(auto, unfolding(crate::specs::Strings::number32))]
+pub(crate) fn number32(reader: &mut Reader<'_>, low: u32) -> Result<u32, Fault>
+    ensures { Reads (spec.number32 low reader.old) result reader.new }
+{
+    let n = number(reader, u64::from(low), u64::from(u32::MAX))?;
+    Ok(n as u32)
+}
+
+/// The greatest mod-sequence.
+const LAST_MODSEQ: u64 = u64::MAX - 1;
+
+/// A mod-sequence.
+#[tactic(auto, unfolding(crate::specs::Strings::modseq))]
+pub(crate) fn modseq(reader: &mut Reader<'_>, low: u64) -> Result<u64, Fault>
+    ensures { Reads (spec.modseq low reader.old) result reader.new }
+{
+    number(reader, low, LAST_MODSEQ)
+}
