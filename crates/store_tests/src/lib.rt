@@ -1,9 +1,13 @@
+//! Tables, their texts, their files and the messages in them, tried from outside: each test uses public calls alone.
+#![tactic(auto)]
+
+#[cfg(test)]
 mod rebuilding;
+#[cfg(test)]
+mod row_codec_tests;
 #[cfg(test)]
 mod shredding;
 #[cfg(test)]
 mod stores;
-#[cfg(test)]
-mod row_codec_tests;
 #[cfg(test)]
 mod table_tests;
