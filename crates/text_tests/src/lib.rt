@@ -4,6 +4,8 @@
 #[cfg(test)]
 mod address_grammar_tests;
 #[cfg(test)]
+mod canon;
+#[cfg(test)]
 mod date_grammar_tests;
 #[cfg(test)]
 mod header_reader_tests;
@@ -15,5 +17,3 @@ mod mime_reader_tests;
 mod transfer_codec_tests;
 #[cfg(test)]
 mod word_codec_tests;
-#[cfg(test)]
-mod canon;
