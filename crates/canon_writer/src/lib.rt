@@ -8,4 +8,4 @@ mod sizes;
 mod value_sizes;
 
 pub use printing::{append_field, law_print, value_text, write_body, write_header, write_message};
-pub use sizes::{field_size, printed_body_size, printed_header_size, printed_size};
+pub use sizes::{field_size, printed_body_size, printed_header_size, printed_size, size_within};

@@ -20,9 +20,10 @@ pub fn printed_size(message: &Message) -> usize
     printed_header_size(&message.fields).saturating_add(size_within(&message.fields, &message.body))
 }
 
-/// How long the body of a message with these fields is in the print.
+/// How long the body of a message with these fields is in its print: a multipart has the boundary that they name. `usize::MAX`
+/// where it is longer. Takes no memory.
 #[cycle(sizing)]
-fn size_within(fields: &[Field], body: &Body) -> usize
+pub fn size_within(fields: &[Field], body: &Body) -> usize
     ensures { result ≡ capped (length (print_body (boundary_of fields.now) (content_of body.now))) }
 {
     match body {

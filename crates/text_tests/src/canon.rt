@@ -3,7 +3,10 @@ use canon_writer::{
     append_field, printed_body_size, printed_header_size, printed_size, value_text, write_body,
     write_header, write_message,
 };
-use mime_reader::{ReadFault, read_message, wrap};
+use mime_reader::{
+    ReadFault, TransferEncoding, named_type, read_message, token_with_parameters,
+    transfer_encoding, wrap,
+};
 use mime_tree::{Body, Reason};
 use std::alloc::Global;
 use std::test::Fail;
@@ -201,6 +204,61 @@ fn a_header_too_long_once_it_is_folded(rt: HostRuntime) -> Result<(), Fail> {
     match read_message(alloc, &once) {
         Err(fault) => assert_eq!(rt; fault, ReadFault::Unreadable(Reason::LongHeader)),
         Ok(_) => assert!(rt; false),
+    }
+    Ok(())
+}
+
+#[test]
+fn a_disposition(rt: HostRuntime) -> Result<(), Fail> {
+    let alloc = rt.alloc();
+    let value = b"Attachment ; a=1;FILENAME=\"p \\\"q\\\"\"; a = 2 x; b=3";
+    let found = token_with_parameters(alloc, value)?.ok_or("no token")?;
+    assert_eq!(rt; found.token.as_slice(), b"Attachment".as_slice());
+    let expected = [
+        (b"a".as_slice(), b"1".as_slice()),
+        (b"FILENAME", b"p \"q\""),
+        (b"a", b"2"),
+    ];
+    let parameters = found.parameters.as_slice();
+    assert_eq!(rt; parameters.len(), 3);
+    for at in 0..3 {
+        assert_eq!(rt; parameters[at].name.as_slice(), expected[at].0);
+        assert_eq!(rt; parameters[at].value.as_slice(), expected[at].1);
+    }
+    assert!(rt; token_with_parameters(alloc, b"; a=1")?.is_none());
+    Ok(())
+}
+
+/// Encodings by name, and whether a type is named.
+#[test]
+fn types_and_encodings(rt: HostRuntime) -> Result<(), Fail> {
+    let alloc = rt.alloc();
+    for (text, encoding, is_named) in [
+        (b"\n".as_slice(), TransferEncoding::Absent, false),
+        (
+            b"Content-Type: Text/Plain\nContent-Transfer-Encoding: BASE64\n\n",
+            TransferEncoding::Base64,
+            true,
+        ),
+        (
+            b"content-type: text\ncontent-transfer-encoding: Quoted-Printable\n\n",
+            TransferEncoding::QuotedPrintable,
+            false,
+        ),
+        (
+            b"Content-Transfer-Encoding:\n\n",
+            TransferEncoding::Absent,
+            false,
+        ),
+        (
+            b"Content-Transfer-Encoding: 8bit\n\n",
+            TransferEncoding::Other,
+            false,
+        ),
+    ] {
+        let message = read_message(alloc, text)?;
+        assert_eq!(rt; transfer_encoding(&message.fields), encoding);
+        assert_eq!(rt; named_type(alloc, &message.fields)?.is_some(), is_named);
     }
     Ok(())
 }
