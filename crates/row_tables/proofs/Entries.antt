@@ -10,6 +10,7 @@ use Rattle.std.specs.List.{filter, find, list_any}
 use Rattle.ordered_rows.specs.RowKey.{RowKey, key_cmp, same_key, number_key}
 use Rattle.ordered_rows.specs.Listed.{IsInOrder, has_key, is_below, is_in_group, row_at, with_row, placed}
 use Rattle.row_tables.specs.Keys.{content_entry_key, digest_key, digest_entry_key, body_part_key}
+use Rattle.row_tables.proofs.Lists.{all_map, all_with}
 use Rattle.row_tables.specs.Indexes.{has_digest, body_ids, Contents, AreIndexed, AreDigests}
 use Rattle.row_tables.specs.declared.contents.BodyPart.{BodyPart}
 use Rattle.row_tables.specs.declared.indexes.ContentEntry.{ContentEntry}
@@ -31,8 +32,18 @@ pub record Numbers {X : Type 0} (key : X → RowKey) : Type 0 where
 
 pub indexed_with : {X : Type 0} (key : X → RowKey) (contents : Contents X) (entries : List ContentEntry) (rows : List X) (entry : ContentEntry) (row : X) → Finds key → Keeps content_entry_key → AreIndexed contents entries rows
     → content_entry_key entry ≡ contents.entry (contents.content row) → entry.id ≡ contents.id row → find (contents.has (contents.content row)) rows ≡ None → IsInOrder key rows → AreIndexed contents (with_row content_entry_key entry entries) (with_row key row rows)
-indexed_with {X} key contents entries rows entry row finds keeps are same_entry same_id new order = record { each = λ c. by c (contents.has c row) refl }
+indexed_with {X} key contents entries rows entry row finds keeps are same_entry same_id new order = record {
+  each = λ c. by c (contents.has c row) refl;
+  one = all_with key (λ x. find (contents.has (contents.content x)) (with_row key row rows) ≡ Some x) row rows (all_map (λ x. find (contents.has (contents.content x)) rows ≡ Some x) (λ x. find (contents.has (contents.content x)) (with_row key row rows) ≡ Some x) stays rows are.one) (finds.same (contents.has (contents.content row)) row rows (contents.itself row) new);
+}
   where
+    stays : (x : X) → find (contents.has (contents.content x)) rows ≡ Some x → find (contents.has (contents.content x)) (with_row key row rows) ≡ Some x
+    stays x here = other (contents.has (contents.content x) row) refl
+      where
+        other : (b : Bool) → contents.has (contents.content x) row ≡ b → find (contents.has (contents.content x)) (with_row key row rows) ≡ Some x
+        other true e = let gone : find (contents.has (contents.content x)) rows ≡ None = subst (λ c. find (contents.has c) rows ≡ None) (contents.same (contents.content x) row e) new in cc
+        other false e = finds.other (contents.has (contents.content x)) row rows e order ∙ here
+
     by : (c : contents.Content) (b : Bool) → contents.has c row ≡ b
         → option_map (λ (e : ContentEntry). e.id) (row_at content_entry_key (contents.entry c) (with_row content_entry_key entry entries)) ≡ option_map contents.id (find (contents.has c) (with_row key row rows))
     by c true e =

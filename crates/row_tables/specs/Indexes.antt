@@ -1,9 +1,9 @@
 -- What the indexes know of the tables.
-use Rattle.std.specs.Prelude.{◌≡◌, ℕ, Bool, true, false, ◌&&◌, nat_eq, List, [], map, Option, refl}
+use Rattle.std.specs.Prelude.{◌≡◌, ℕ, Bool, true, false, ◌&&◌, nat_eq, List, [], map, Option, Some, refl}
 use Rattle.std.proofs.Common.{ap, ◌∙◌}
 use Rattle.std.specs.Cmp.{first_so, second_so}
 use Rattle.std.specs.Option.{option_map}
-use Rattle.std.specs.List.{filter, find}
+use Rattle.std.specs.List.{AllByRecursion, filter, find}
 use Rattle.std.specs.Cmp.Lexicographic.{pointwise, bytes_decides}
 use Rattle.ordered_rows.specs.RowKey.{RowKey, same_key}
 use Rattle.ordered_rows.specs.Listed.{row_at, is_in_group}
@@ -51,12 +51,20 @@ pub record Contents (X : Type 0) : Type 1 where
   pub id : X → ℕ
   -- where an index keeps the id
   pub entry : Content → RowKey
+  pub itself : (row : X) → has (content row) row ≡ true
   pub same : (c : Content) (row : X) → has c row ≡ true → content row ≡ c
   pub differs : (c : Content) (row : X) → has c row ≡ false → same_key (entry (content row)) (entry c) ≡ false
 
--- the index finds the id of each content where the table has it
+-- The index finds the id of each content where the table has it, and each row is the one that its content finds.
 pub record AreIndexed {X : Type 0} (contents : Contents X) (entries : List ContentEntry) (rows : List X) : Type 0 where
   pub each : (c : contents.Content) → option_map (λ e. e.id) (row_at content_entry_key (contents.entry c) entries) ≡ option_map contents.id (find (contents.has c) rows)
+  pub one : AllByRecursion (λ r. find (contents.has (contents.content r)) rows ≡ Some r) rows
+
+pub same_bytes : (text : List ℕ) → pointwise nat_eq text text ≡ true
+same_bytes text = (bytes_decides text text).1 refl
+
+pub all_same : (a b c : Bool) → a ≡ true → b ≡ true → c ≡ true → (a && b && c) ≡ true
+all_same a b c p q r = ap (λ x. x && b && c) p ∙ ap (λ x. x && c) q ∙ r
 
 abbrev pub flag_name_contents : Contents FlagName
 flag_name_contents = record {
@@ -65,6 +73,7 @@ flag_name_contents = record {
   has = has_flag_name;
   id = λ r. r.id;
   entry = λ name. texts_key name [] [];
+  itself = λ r. same_bytes r.name;
   same = λ name r e. (bytes_decides r.name name).0 e;
   differs = λ name r e. ap (λ b. b && true && true && true) e;
 }
@@ -76,6 +85,7 @@ field_name_contents = record {
   has = has_name;
   id = λ r. r.id;
   entry = λ name. texts_key name [] [];
+  itself = λ r. same_bytes r.name;
   same = λ name r e. (bytes_decides r.name name).0 e;
   differs = λ name r e. ap (λ b. b && true && true && true) e;
 }
@@ -103,6 +113,7 @@ address_contents = record {
   has = λ c. has_address c.0 c.1 c.2;
   id = λ r. r.id;
   entry = λ c. texts_key c.0 c.1 c.2;
+  itself = λ r. all_same (pointwise nat_eq r.name r.name) (pointwise nat_eq r.local r.local) (pointwise nat_eq r.domain r.domain) (same_bytes r.name) (same_bytes r.local) (same_bytes r.domain);
   same = same_address;
   differs = λ c r e. one_differs (pointwise nat_eq r.name c.0) (pointwise nat_eq r.local c.1) (pointwise nat_eq r.domain c.2) e;
 }

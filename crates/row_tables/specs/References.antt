@@ -1,10 +1,11 @@
 -- What holds of the rows of all tables: their order, and that each row that a row refers to is there.
-use Rattle.std.specs.Prelude.{◌≡◌, ℕ, ◌<◌, ◌&&◌, ◌==◌, nat_eq, List, [], map, None, IsSome}
-use Rattle.std.specs.List.{filter, AllByRecursion}
+use Rattle.std.specs.Prelude.{◌≡◌, ℕ, ◌<◌, ◌&&◌, ◌==◌, nat_eq, List, [], map, Some, None, IsSome}
+use Rattle.std.specs.List.{filter, find, AllByRecursion}
 use Rattle.std.specs.Cmp.Lexicographic.{pointwise}
 use Rattle.ordered_rows.specs.RowKey.{number_key}
 use Rattle.ordered_rows.specs.Listed.{IsInOrder, row_at}
 use Rattle.row_tables.specs.Keys.{owned_key, uid_key, uid_flag_key, user_key, mailbox_key, subscription_key, mailbox_message_key, deleted_message_key, flag_name_key, flag_key, part_key, field_key, message_key, body_part_key, part_number_key, field_name_key, header_field_key, address_key, address_field_key, date_field_key, message_id_key, unparsed_message_key}
+use Rattle.row_tables.specs.Indexes.{has_flag_name, has_name, has_address}
 use Rattle.row_tables.specs.TableRows.{TableRows}
 use Rattle.row_tables.specs.declared.heads.Mailbox.{Mailbox}
 use Rattle.row_tables.specs.declared.heads.Subscription.{Subscription}
@@ -181,3 +182,9 @@ pub record IsUnknown (message : ℕ) (t : TableRows) : Type 0 where
   pub dates : dates_of message t.mails.date_fields ≡ []
   pub ids : ids_of message t.mails.message_ids ≡ []
   pub unparsed : row_at unparsed_message_key (number_key message) t.mails.unparsed_messages ≡ None
+
+-- No two flag names, no two field names and no two addresses are the same: each row is the one that its texts find.
+pub record AreDistinct (t : TableRows) : Type 0 where
+  pub flag_names : AllByRecursion (λ r. find (has_flag_name r.name) t.marks.flag_names ≡ Some r) t.marks.flag_names
+  pub field_names : AllByRecursion (λ r. find (has_name r.name) t.shared.field_names ≡ Some r) t.shared.field_names
+  pub addresses : AllByRecursion (λ r. find (has_address r.name r.local r.domain) t.shared.addresses ≡ Some r) t.shared.addresses

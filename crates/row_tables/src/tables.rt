@@ -2,7 +2,7 @@
 ghost use Rattle.std.specs.Prelude.{◌≡◌, OnOk, OnErr};
 ghost use Rattle.row_tables.specs.TableRows.{no_rows};
 ghost use Rattle.row_tables.specs.Fits.{CanRun, Fits, IsInsertion, Runs, RunsPart, applied};
-ghost use Rattle.row_tables.specs.References.{AreClosed, AreOrdered};
+ghost use Rattle.row_tables.specs.References.{AreClosed, AreDistinct, AreOrdered};
 
 use crate::change::RowChange;
 use crate::head_tables::HeadTables;
@@ -47,10 +47,12 @@ impl Tables {
         }
     }
 
-    /// Each table is in order, and each row that a row refers to is there. For the proofs of callers; does nothing.
+    /// Each table is in order, each row that a row refers to is there, and no two names of flags or of fields and no two addresses
+    /// are the same. For the proofs of callers; does nothing.
     pub fn are_whole(&self)
         ensures ordered { AreOrdered self.now }
         ensures closed { AreClosed self.now }
+        ensures distinct { AreDistinct self.now }
     {
         let heads = &self.heads;
         let marks = &self.marks;
