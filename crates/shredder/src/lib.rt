@@ -16,6 +16,3 @@ mod trees;
 pub use laws::{law_mails_fit, law_other_messages_stay};
 pub use paths::path_of_child;
 pub use rows::rows_of;
-
-#[cfg(test)]
-mod tests;
