@@ -1,22 +1,16 @@
 //! The program: `mailstored FOLDER WORD..` runs the command of its words.
 #![tactic(auto)]
 
-mod clock;
-mod disk;
 mod ports;
-mod sink;
-mod source;
 mod store_files;
 
-use crate::clock::SystemClock;
 use crate::ports::NoPorts;
-use crate::sink::StreamSink;
-use crate::source::StreamSource;
 use crate::store_files::{open_files, tell_failures, tell_unusable};
 use std::alloc::{Alloc, AllocGlobal};
 use std::env::{self, Env};
 use std::io::{ErrorKind, Input, Print, writer};
 use std::process::ExitCode;
+use system_adapters::{StreamSink, StreamSource, SystemClock};
 
 /// The status where the arguments can't be used.
 const USAGE: u8 = 2;

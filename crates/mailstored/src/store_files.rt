@@ -1,10 +1,10 @@
 //! The files of a store in a folder: one process opens them at a time.
 
-use crate::disk::{Failure, FileDisk};
 use disk_model::Files;
 use std::fs::{File, OpenOptions, TryLockError};
 use std::io;
 use std::os::unix::fs::OpenOptionsExt;
+use system_adapters::{Failure, FileDisk};
 
 /// The rights of a file that is made: its owner reads and writes it, and nobody else.
 const OWNER_ALONE: u32 = 0o600;

@@ -8,13 +8,14 @@ use std::io::{ErrorKind, Write};
 
 /// A sink that writes to a writer, and flushes it at each write. It doesn't tell what was written.
 #[derive(Drop)]
-pub(crate) struct StreamSink<W> {
+pub struct StreamSink<W> {
     writer: W,
     faults: u64,
 }
 
 impl<W> StreamSink<W> {
-    pub(crate) fn new(writer: W) -> StreamSink<W> {
+    /// A sink that writes to `writer`.
+    pub fn new(writer: W) -> StreamSink<W> {
         StreamSink { writer, faults: 0 }
     }
 }

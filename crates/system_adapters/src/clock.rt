@@ -7,13 +7,14 @@ use std::time::{self, SystemTime};
 /// The clock of the system. Where it can't be read, or stands before 1970, the last reading is given again, at first
 /// the first second of 1970.
 #[derive(Drop)]
-pub(crate) struct SystemClock<'a, T> {
+pub struct SystemClock<'a, T> {
     system: &'a T,
     last: u64,
 }
 
 impl<'a, T> SystemClock<'a, T> {
-    pub(crate) fn new(system: &'a T) -> SystemClock<'a, T> {
+    /// The clock of this system.
+    pub fn new(system: &'a T) -> SystemClock<'a, T> {
         SystemClock { system, last: 0 }
     }
 }

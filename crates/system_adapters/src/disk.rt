@@ -2,7 +2,7 @@
 
 ghost use Rattle.std.specs.Prelude.{◌≡◌, ◌↔◌, ◌≤◌, ◌<◌, ◌+◌, ◌^◌, length, IfOk, OnOk, OnErr, IsOk, true, false};
 ghost use Rattle.fault_counts.specs.Rose.{Rose};
-ghost use Rattle.mailstored.specs.FileTold.{file_told};
+ghost use Rattle.system_adapters.specs.FileTold.{file_told};
 
 use disk_model::{Disk, DiskFault};
 use fault_counts::raised;
@@ -13,10 +13,14 @@ use std::os::unix::fs::FileExt;
 
 /// What a call on a file was to do.
 #[derive(Clone, Copy)]
-pub(crate) enum Action {
+pub enum Action {
+    /// To tell the file's length.
     Measure,
+    /// To read from a place.
     Read,
+    /// To write at a place.
     Write,
+    /// To make sure of what was written.
     Sync,
 }
 
@@ -33,15 +37,17 @@ impl Display for Action {
 
 /// A call on a file that failed, and the system's error.
 #[derive(Drop)]
-pub(crate) struct Failure {
-    pub(crate) action: Action,
-    pub(crate) error: io::Error,
+pub struct Failure {
+    /// What it was to do.
+    pub action: Action,
+    /// The system's error.
+    pub error: io::Error,
 }
 
 /// A disk over an open file. It doesn't tell what the file has. Once a write or a sync failed, every later call fails: the system
 /// may have dropped what it could not write, so that a later sync would say too much.
 #[derive(Drop)]
-pub(crate) struct FileDisk<F> {
+pub struct FileDisk<F> {
     file: F,
     faults: u64,
     reads: u64,
@@ -50,7 +56,8 @@ pub(crate) struct FileDisk<F> {
 }
 
 impl<F> FileDisk<F> {
-    pub(crate) fn new(file: F) -> FileDisk<F> {
+    /// A disk over this file, none of whose calls failed yet.
+    pub fn new(file: F) -> FileDisk<F> {
         FileDisk {
             file,
             faults: 0,
@@ -61,7 +68,7 @@ impl<F> FileDisk<F> {
     }
 
     /// The first call that failed, if one did.
-    pub(crate) fn failure(&self) -> Option<&Failure> {
+    pub fn failure(&self) -> Option<&Failure> {
         self.failure.as_ref()
     }
 

@@ -8,13 +8,14 @@ use std::io::{ErrorKind, Read};
 
 /// A source that reads what a reader gives. It doesn't tell what is left.
 #[derive(Drop)]
-pub(crate) struct StreamSource<R> {
+pub struct StreamSource<R> {
     reader: R,
     faults: u64,
 }
 
 impl<R> StreamSource<R> {
-    pub(crate) fn new(reader: R) -> StreamSource<R> {
+    /// A source that reads `reader`.
+    pub fn new(reader: R) -> StreamSource<R> {
         StreamSource { reader, faults: 0 }
     }
 }

@@ -1,5 +1,5 @@
 use Rattle.std.proofs.Common.{◌≡◌}
-use Rattle.mailstored.proofs.source.StreamSourceSource.read.Given as goal
+use Rattle.system_adapters.proofs.sink.StreamSinkSink.write.Given as goal
 
 abbrev pub invariant-again : goal.invariant-again
 invariant-again g l = l.self.faults ≡ l.initial.self.faults

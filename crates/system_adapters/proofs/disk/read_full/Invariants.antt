@@ -1,5 +1,5 @@
 use Rattle.std.proofs.Common.{◌≤◌, length}
-use Rattle.mailstored.proofs.disk.read_full.Given as goal
+use Rattle.system_adapters.proofs.disk.read_full.Given as goal
 
 abbrev pub invariant-again : goal.invariant-again
 invariant-again g l = l.filled ≤ length l.buf
