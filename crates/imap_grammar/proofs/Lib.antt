@@ -1,2 +1,3 @@
 mod SpellingLemmas
 mod Turns
+mod OpeningLemmas

@@ -10,12 +10,28 @@ use Rattle.imap_grammar.specs.declared.commands.ParseFault.TheVariants as faults
 use Rattle.imap_grammar.specs.declared.classes.Class.TheVariants.{Tag}
 use Rattle.imap_grammar.specs.declared.verbs.Verb.{Verb}
 use Rattle.imap_grammar.specs.declared.verbs.Verb.TheVariants as verb
+use Rattle.imap_grammar.specs.declared.verbs.UidVerb.{UidVerb}
+use Rattle.imap_grammar.specs.declared.verbs.UidVerb.TheVariants as uid
 use Rattle.imap_grammar.specs.Readings.{Reading, Outcome, ◌>>=◌, ◌>>◌, pure, space}
 use Rattle.imap_grammar.specs.Strings.{some}
 use Rattle.imap_grammar.specs.Words.{keyword}
-use Rattle.imap_grammar.specs.Verbs.{verbs}
+use Rattle.imap_grammar.specs.Verbs.{verbs, uid_verbs}
 use Rattle.imap_grammar.specs.Session.{alone, login, authenticate}
 use Rattle.imap_grammar.specs.Mailboxes.{named_mailbox, rename, listing, status}
+use Rattle.imap_grammar.specs.Selecting.{select}
+use Rattle.imap_grammar.specs.Messages.{append, store, copy, uid_expunge}
+
+-- what stands behind a name behind UID
+abbrev pub uid_arguments : UidVerb → Reading Command
+uid_arguments uid.Store = store true
+uid_arguments uid.Copy = copy true
+uid_arguments uid.Expunge = uid_expunge
+
+unfoldable pub by_uids : Reading Command
+by_uids = do
+  space
+  name ← keyword uid_verbs
+  uid_arguments name
 
 -- What stands behind the name of a command, up to its end.
 abbrev pub arguments : Verb → Reading Command
@@ -35,6 +51,12 @@ arguments verb.Rename = rename
 arguments verb.List = listing false
 arguments verb.Lsub = listing true
 arguments verb.Status = status
+arguments verb.Append = append
+arguments verb.Select = select false
+arguments verb.Examine = select true
+arguments verb.Store = store false
+arguments verb.Copy = copy false
+arguments verb.Uid = by_uids
 
 -- A command without its tag.
 unfoldable pub command : Reading Command

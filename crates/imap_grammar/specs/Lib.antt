@@ -10,4 +10,6 @@ pub mod StatusItems
 pub mod Verbs
 pub mod Session
 pub mod Mailboxes
+pub mod Selecting
+pub mod Messages
 pub mod Commands

@@ -1,7 +1,9 @@
 -- The names of commands.
 use Rattle.std.specs.Prelude.{ℕ, List, [], ◌∷◌, codes}
 use Rattle.imap_grammar.specs.declared.verbs.Verb.{Verb}
-use Rattle.imap_grammar.specs.declared.verbs.Verb.TheVariants.{Capability, Noop, Logout, Check, Close, Expunge, Login, Authenticate, Create, Delete, Subscribe, Unsubscribe, Rename, List as ListNames, Lsub, Status}
+use Rattle.imap_grammar.specs.declared.verbs.Verb.TheVariants.{Capability, Noop, Logout, Check, Close, Expunge, Login, Authenticate, Create, Delete, Subscribe, Unsubscribe, Rename, List as ListNames, Lsub, Status, Append, Select, Examine, Store, Copy, Uid}
+use Rattle.imap_grammar.specs.declared.verbs.UidVerb.{UidVerb}
+use Rattle.imap_grammar.specs.declared.verbs.UidVerb.TheVariants as uid
 
 abbrev pub verbs : List (List ℕ × Verb)
 verbs =
@@ -21,4 +23,18 @@ verbs =
     ∷ (codes "LIST", ListNames)
     ∷ (codes "LSUB", Lsub)
     ∷ (codes "STATUS", Status)
+    ∷ (codes "APPEND", Append)
+    ∷ (codes "SELECT", Select)
+    ∷ (codes "EXAMINE", Examine)
+    ∷ (codes "STORE", Store)
+    ∷ (codes "COPY", Copy)
+    ∷ (codes "UID", Uid)
+    ∷ []
+
+-- The commands that UID stands before.
+abbrev pub uid_verbs : List (List ℕ × UidVerb)
+uid_verbs =
+    (codes "STORE", uid.Store)
+    ∷ (codes "COPY", uid.Copy)
+    ∷ (codes "EXPUNGE", uid.Expunge)
     ∷ []

@@ -19,3 +19,7 @@ entries table = map (λ e. (e.0.now, e.1)) table
 -- A keyword of a table: the longest run of bytes that keywords have is its name.
 unfoldable pub keyword : {A : Type 0} → List (List ℕ × A) → Reading A
 keyword table = λ text. option_map (λ a. (a, behind (is_in Word) text)) (named table (front (is_in Word) text))
+
+-- This keyword.
+unfoldable pub word : List ℕ → Reading (Unit {0})
+word name = λ text. if is_same (front (is_in Word) text) name then Some (tt, behind (is_in Word) text) else None

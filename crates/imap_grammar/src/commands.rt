@@ -1,5 +1,9 @@
 //! What commands are.
+use crate::flags::{Flag, FlagChange};
 use crate::items::StatusItem;
+use crate::selecting::Resync;
+use crate::sets::SeqSet;
+use date_grammar::Stamp;
 use octets::Octets;
 use sqlite_items::Items;
 
@@ -37,6 +41,35 @@ pub enum Command {
         name: Octets,
         items: Items<StatusItem>,
     },
+    /// A message with the flags and the date that it is to have.
+    Append {
+        name: Octets,
+        flags: Items<Flag>,
+        stamp: Option<Stamp>,
+        text: Octets,
+    },
+    /// SELECT, or EXAMINE.
+    Select {
+        name: Octets,
+        examine: bool,
+        condstore: bool,
+        resync: Option<Resync>,
+    },
+    /// The messages that have changed since are left as they are. The silent form isn't answered.
+    Store {
+        by_uid: bool,
+        set: SeqSet,
+        unchanged_since: Option<u64>,
+        how: FlagChange,
+        silent: bool,
+        flags: Items<Flag>,
+    },
+    Copy {
+        by_uid: bool,
+        set: SeqSet,
+        name: Octets,
+    },
+    UidExpunge(SeqSet),
 }
 
 /// A command with the tag that its answer is told with.

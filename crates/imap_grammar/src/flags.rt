@@ -27,6 +27,14 @@ pub enum Flag {
     Keyword(Octets),
 }
 
+/// What STORE does with the flags that it names (RFC 3501 §6.4.6).
+#[derive(Clone, Copy, Debug, PartialEq, Eq)]
+pub enum FlagChange {
+    Set,
+    Add,
+    Remove,
+}
+
 /// A flag by its name behind the `\`.
 fn flag_named(name: &[u8]) -> Option<Flag>
     ensures { result ≡ named spec.system_flags name.now }

@@ -6,11 +6,13 @@ ghost use Rattle.imap_grammar.specs.Readings.{Reads};
 use crate::classes::Class;
 use crate::commands::{Bad, Command, ParseFault, Tagged};
 use crate::mailboxes::{listing, one_name, rename, status};
+use crate::messages::{append, copy, store, uid_expunge};
 use crate::reader::{Fault, Reader};
+use crate::selecting::select;
 use crate::session::{alone, authenticate, login};
 use crate::spellings::Spelling;
 use crate::strings::some;
-use crate::verbs::{Verb, read_verb};
+use crate::verbs::{UidVerb, Verb, read_uid_verb, read_verb};
 use std::alloc::Global;
 
 /// Reads a unit as a command with its tag. A unit is a line with its CRLF, or lines with literals between them, each of which
@@ -81,5 +83,31 @@ fn arguments(alloc: Global, reader: &mut Reader<'_>, name: Verb) -> Result<Comma
         Verb::List => listing(alloc, reader, false),
         Verb::Lsub => listing(alloc, reader, true),
         Verb::Status => status(alloc, reader),
+        Verb::Append => append(alloc, reader),
+        Verb::Select => select(alloc, reader, false),
+        Verb::Examine => select(alloc, reader, true),
+        Verb::Store => store(alloc, reader, false),
+        Verb::Copy => copy(alloc, reader, false),
+        Verb::Uid => by_uids(alloc, reader),
+    }
+}
+
+/// A command behind UID.
+#[tactic(auto, unfolding(crate::specs::Commands::by_uids))]
+fn by_uids(alloc: Global, reader: &mut Reader<'_>) -> Result<Command, Fault>
+    ensures { Reads (spec.by_uids reader.old) result reader.new }
+{
+    reader.byte(b' ')?;
+    let name = read_uid_verb(reader)?;
+    uid_arguments(alloc, reader, name)
+}
+
+fn uid_arguments(alloc: Global, reader: &mut Reader<'_>, name: UidVerb) -> Result<Command, Fault>
+    ensures { Reads (spec.uid_arguments name reader.old) result reader.new }
+{
+    match name {
+        UidVerb::Store => store(alloc, reader, true),
+        UidVerb::Copy => copy(alloc, reader, true),
+        UidVerb::Expunge => uid_expunge(alloc, reader),
     }
 }

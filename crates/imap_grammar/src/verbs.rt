@@ -1,5 +1,5 @@
 //! The names of commands.
-ghost use Rattle.imap_grammar.specs.Verbs.{verbs};
+ghost use Rattle.imap_grammar.specs.Verbs.{uid_verbs, verbs};
 ghost use Rattle.imap_grammar.specs.Words.{keyword as keyword_of};
 ghost use Rattle.imap_grammar.specs.Readings.{Reads};
 
@@ -24,9 +24,15 @@ pub(crate) enum Verb {
     List,
     Lsub,
     Status,
+    Append,
+    Select,
+    Examine,
+    Store,
+    Copy,
+    Uid,
 }
 
-const VERBS: [(&[u8], Verb); 16] = [
+const VERBS: [(&[u8], Verb); 22] = [
     (b"CAPABILITY", Verb::Capability),
     (b"NOOP", Verb::Noop),
     (b"LOGOUT", Verb::Logout),
@@ -43,7 +49,34 @@ const VERBS: [(&[u8], Verb); 16] = [
     (b"LIST", Verb::List),
     (b"LSUB", Verb::Lsub),
     (b"STATUS", Verb::Status),
+    (b"APPEND", Verb::Append),
+    (b"SELECT", Verb::Select),
+    (b"EXAMINE", Verb::Examine),
+    (b"STORE", Verb::Store),
+    (b"COPY", Verb::Copy),
+    (b"UID", Verb::Uid),
 ];
+
+/// The commands that UID stands before (RFC 3501 §6.4.8, RFC 4315 §2.1).
+#[derive(Clone, Copy, Debug, PartialEq, Eq)]
+pub(crate) enum UidVerb {
+    Store,
+    Copy,
+    Expunge,
+}
+
+const UID_VERBS: [(&[u8], UidVerb); 3] = [
+    (b"STORE", UidVerb::Store),
+    (b"COPY", UidVerb::Copy),
+    (b"EXPUNGE", UidVerb::Expunge),
+];
+
+/// The name of a command behind UID.
+pub(crate) fn read_uid_verb(reader: &mut Reader<'_>) -> Result<UidVerb, Fault>
+    ensures { Reads (keyword_of uid_verbs reader.old) result reader.new }
+{
+    keyword(reader, &UID_VERBS)
+}
 
 /// The name of a command.
 pub(crate) fn read_verb(reader: &mut Reader<'_>) -> Result<Verb, Fault>

@@ -1,6 +1,6 @@
 //! Keywords.
 ghost use Rattle.std.specs.Prelude.{◌≡◌};
-ghost use Rattle.imap_grammar.specs.Words.{entries, keyword as keyword_of, named as named_of};
+ghost use Rattle.imap_grammar.specs.Words.{entries, keyword as keyword_of, named as named_of, word as word_of};
 ghost use Rattle.imap_grammar.specs.Readings.{Reads};
 
 use crate::classes::Class;
@@ -30,5 +30,17 @@ pub(crate) fn keyword<T: Copy>(
     match named(table, reader.front(Class::Word)) {
         Some(entry) => Ok(entry),
         None => Err(Fault::NoReading),
+    }
+}
+
+/// This keyword.
+#[tactic(auto, unfolding(crate::specs::Words::word))]
+pub(crate) fn word(reader: &mut Reader<'_>, name: &[u8]) -> Result<(), Fault>
+    ensures { Reads (word_of name.now reader.old) result reader.new }
+{
+    if same(reader.front(Class::Word), name) {
+        Ok(())
+    } else {
+        Err(Fault::NoReading)
     }
 }
