@@ -1,9 +1,8 @@
 //! A reader of units that is fed byte by byte.
 
-ghost use Rattle.std.specs.Prelude.{◌≡◌, ◌≢◌, ◌≤◌, ◌++◌, ◌∷◌, [], IfOk, IsOk, None, Some, vec_capacity};
-ghost use Rattle.imap_lexer.specs.declared.units.Fed.TheVariants.{More};
+ghost use Rattle.std.specs.Prelude.{◌≡◌, ◌≤◌, ◌++◌, ◌∷◌, [], IfOk, IsOk, None, vec_capacity};
 ghost use Rattle.imap_lexer.specs.declared.units.Form.TheVariants.{Command};
-ghost use Rattle.imap_lexer.specs.Units.{shown, first};
+ghost use Rattle.imap_lexer.specs.Units.{ended, ending, first, shown};
 ghost use Rattle.imap_lexer.specs.Lexer.{form_of};
 
 use crate::units::{Fed, shows};
@@ -44,7 +43,7 @@ impl Lexer {
 
     /// Takes one byte, and tells what the bytes since the last unit show.
     ///
-    /// After another answer than `Fed::More`, call `next` before more bytes.
+    /// After `Fed::Unit` and `Fed::LineTooLong`, call `next` before more bytes.
     ///
     /// Lines take no memory, so no call is refused any as long as there are no literals.
     pub fn feed(&mut self, byte: u8) -> Result<Fed, AllocError>
@@ -53,8 +52,7 @@ impl Lexer {
         ensures shown { IfOk result (λ fed. fed ≡ shown self.new.form self.new.bytes) }
 
         // The unit is whole at its last byte, and not before.
-        ensures more { result ≡ Ok More → first self.new.form self.new.bytes ≡ None }
-        ensures whole { IfOk result (λ fed. fed ≢ More → first self.new.form self.new.bytes ≡ Some (record { unit = self.new.bytes; shows = fed; rest = [] })) }
+        ensures cut { IfOk result (λ fed. first self.new.form self.new.bytes ≡ ended (ending fed) self.new.bytes) }
         ensures taken { IsOk result }
     {
         self.bytes.push(byte)?;
@@ -96,7 +94,7 @@ mod tests {
         let mut lexer = Lexer::new(rt.alloc())?;
         'bytes: for byte in text {
             match lexer.feed(*byte)? {
-                Fed::More => {}
+                Fed::More | Fed::Continue => {}
                 Fed::Unit => return Ok(lexer.unit() == text),
                 Fed::LineTooLong => return Ok(false),
             }

@@ -7,4 +7,4 @@ mod lexer;
 mod units;
 
 pub use lexer::Lexer;
-pub use units::{Fed, Form, units_end_where_they_end};
+pub use units::{Fed, Form, Shown, units_end_where_they_end};

@@ -1,9 +1,8 @@
 //! The forms of units, what bytes show of one, and the law that a unit ends where it ends.
 
-ghost use Rattle.std.specs.Prelude.{ℕ, ◌≡◌, ◌≢◌, ◌++◌, ◌∷◌, List, [], Some, None};
+ghost use Rattle.std.specs.Prelude.{ℕ, ◌≡◌, ◌++◌, ◌∷◌, List, [], Some, None};
 ghost use Rattle.imap_lexer.specs.declared.units.Form.{Form};
-ghost use Rattle.imap_lexer.specs.declared.units.Fed.TheVariants.{More};
-ghost use Rattle.imap_lexer.specs.Units.{Cut, first, shown};
+ghost use Rattle.imap_lexer.specs.Units.{Cut, ending, first, is_prompted, shown};
 
 /// What a session awaits from its peer.
 #[derive(Clone, Copy, Debug, PartialEq, Eq)]
@@ -19,10 +18,44 @@ pub enum Form {
 pub enum Fed {
     /// The unit goes on.
     More,
+    /// The unit goes on once the peer is told so. No unit of today awaits that.
+    Continue,
     /// The bytes are a whole unit.
     Unit,
     /// The line has more bytes than one may have.
     LineTooLong,
+}
+
+/// What a unit that is cut off shows.
+#[derive(Clone, Copy, Debug, PartialEq, Eq)]
+pub enum Shown {
+    /// It is whole.
+    Unit,
+    /// It is a line that has more bytes than one may have.
+    LineTooLong,
+}
+
+impl Fed {
+    /// What ends with the bytes, if a unit does.
+    pub fn ending(self) -> Option<Shown>
+        ensures { result ≡ ending self }
+    {
+        match self {
+            Fed::More | Fed::Continue => None,
+            Fed::Unit => Some(Shown::Unit),
+            Fed::LineTooLong => Some(Shown::LineTooLong),
+        }
+    }
+
+    /// Whether the peer is to be told that it may go on.
+    pub fn is_prompted(self) -> bool
+        ensures { result ≡ is_prompted self }
+    {
+        match self {
+            Fed::Continue => true,
+            Fed::More | Fed::Unit | Fed::LineTooLong => false,
+        }
+    }
 }
 
 /// How many bytes a line may have, with its CRLF.
@@ -45,11 +78,11 @@ pub fn shows(bytes: &[u8]) -> Fed
 /// change it; and where one byte more completes a unit, that unit is all the bytes.
 pub fn units_end_where_they_end()
     ensures parts { (form : Form) (bytes : List ℕ) (cut : Cut) → first form bytes ≡ Some cut → bytes ≡ cut.unit ++ cut.rest }
-    ensures whole { (form : Form) (bytes : List ℕ) (cut : Cut) → first form bytes ≡ Some cut → (shown form cut.unit ≡ cut.shows) × (cut.shows ≢ More) }
+    ensures whole { (form : Form) (bytes : List ℕ) (cut : Cut) → first form bytes ≡ Some cut → ending (shown form cut.unit) ≡ Some cut.shows }
     ensures shortest { (form : Form) (bytes : List ℕ) (cut : Cut) → first form bytes ≡ Some cut
-        → (byte : ℕ) (front behind : List ℕ) (next : ℕ) → cut.unit ≡ (byte ∷ front) ++ next ∷ behind → shown form (byte ∷ front) ≡ More }
+        → (byte : ℕ) (front behind : List ℕ) (next : ℕ) → cut.unit ≡ (byte ∷ front) ++ next ∷ behind → ending (shown form (byte ∷ front)) ≡ None }
     ensures none { (form : Form) (bytes : List ℕ) → first form bytes ≡ None
-        → (byte : ℕ) (front behind : List ℕ) → bytes ≡ (byte ∷ front) ++ behind → shown form (byte ∷ front) ≡ More }
+        → (byte : ℕ) (front behind : List ℕ) → bytes ≡ (byte ∷ front) ++ behind → ending (shown form (byte ∷ front)) ≡ None }
     ensures stays { (form : Form) (bytes later : List ℕ) (cut : Cut) → first form bytes ≡ Some cut
         → first form (bytes ++ later) ≡ Some (record { unit = cut.unit; shows = cut.shows; rest = cut.rest ++ later }) }
     ensures at_last { (form : Form) (bytes : List ℕ) (byte : ℕ) (cut : Cut) → first form bytes ≡ None

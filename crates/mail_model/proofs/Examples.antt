@@ -4,11 +4,11 @@ use Rattle.std.specs.List.{range_with_len}
 use Rattle.port_model.specs.History.{Opened, Piece, Ended}
 use Rattle.port_model.specs.declared.calls.Kind.TheVariants.{Imap, Lmtp}
 use Rattle.imap_lexer.specs.declared.units.Form.{Form}
-use Rattle.imap_lexer.specs.declared.units.Fed.TheVariants.{Unit as Whole, LineTooLong}
+use Rattle.imap_lexer.specs.declared.units.Shown.TheVariants.{Unit as Whole, LineTooLong}
 use Rattle.imap_lexer.specs.Units.{first, shown}
 use Rattle.mail_model.specs.Commands.{Capability, Noop, Logout, Tagged, BadTagged, BadUntagged, is_atom_byte, is_tag_byte, parsed}
-use Rattle.mail_model.specs.Step.{World, step, greeting}
-use Rattle.mail_model.specs.Machine.{machine, serve, take_piece}
+use Rattle.mail_model.specs.Step.{Shared, World, left_by, step, greeting}
+use Rattle.mail_model.specs.Machine.{machine, take_byte}
 
 -- ATOM-CHAR: no space, control, `(`, `)`, `{`, `%`, `*`, `"`, `\` and `]`
 atom_bytes : filter is_atom_byte (range_with_len 0 256) ≡ codes "!#$&'+,-./0123456789:;<=>?@ABCDEFGHIJKLMNOPQRSTUVWXYZ[^_`abcdefghijklmnopqrstuvwxyz|}~"
@@ -36,39 +36,39 @@ nothing_read : (parsed (codes "\r\n") ≡ BadUntagged) × (parsed (codes "NOOP\r
 unfolding parsed
 nothing_read = (refl, refl, refl, refl, refl, refl, refl, refl, refl)
 
-answered : (world : World) (number : ℕ) (form : Form) (moment : ℕ)
-    → ((step world number form Whole (codes "a1 noop\r\n") moment).answer ≡ codes "a1 OK NOOP completed\r\n") × ((step world number form Whole (codes "a1 XNOOP\r\n") moment).answer ≡ codes "a1 BAD syntax\r\n")
-    × ((step world number form Whole (codes "noop\r\n") moment).answer ≡ codes "* BAD syntax\r\n") × ((step world number form Whole (codes "a1 noop\r\n") moment).closes ≡ false)
+answered : (shared : Shared) (number : ℕ) (form : Form) (moment : ℕ)
+    → ((step shared number form Whole (codes "a1 noop\r\n") moment).answer ≡ codes "a1 OK NOOP completed\r\n") × ((step shared number form Whole (codes "a1 XNOOP\r\n") moment).answer ≡ codes "a1 BAD syntax\r\n")
+    × ((step shared number form Whole (codes "noop\r\n") moment).answer ≡ codes "* BAD syntax\r\n") × ((step shared number form Whole (codes "a1 noop\r\n") moment).closes ≡ false)
 unfolding step parsed
-answered world number form moment = (refl, refl, refl, refl)
+answered shared number form moment = (refl, refl, refl, refl)
 
-closing_answers : (world : World) (number : ℕ) (form : Form) (moment : ℕ)
-    → ((step world number form Whole (codes "a LOGOUT\r\n") moment).answer ≡ codes "* BYE logging out\r\na OK LOGOUT completed\r\n") × ((step world number form Whole (codes "a LOGOUT\r\n") moment).closes ≡ true)
-    × ((step world number form LineTooLong (codes "x") moment).answer ≡ codes "* BYE line too long\r\n") × ((step world number form LineTooLong (codes "x") moment).closes ≡ true)
+closing_answers : (shared : Shared) (number : ℕ) (form : Form) (moment : ℕ)
+    → ((step shared number form Whole (codes "a LOGOUT\r\n") moment).answer ≡ codes "* BYE logging out\r\na OK LOGOUT completed\r\n") × ((step shared number form Whole (codes "a LOGOUT\r\n") moment).closes ≡ true)
+    × ((step shared number form LineTooLong (codes "x") moment).answer ≡ codes "* BYE line too long\r\n") × ((step shared number form LineTooLong (codes "x") moment).closes ≡ true)
 unfolding step parsed
-closing_answers world number form moment = (refl, refl, refl, refl)
+closing_answers shared number form moment = (refl, refl, refl, refl)
 
 -- The 65th session at once is one too many.
-too_many : (world : World)
-    → ((greeting world 65 Imap 64).answer ≡ codes "* BYE too many sessions\r\n") × ((greeting world 65 Imap 64).closes ≡ true) × ((greeting world 65 Imap 63).answer ≡ codes "* OK IMAP4rev1 ready\r\n")
+too_many : (shared : Shared)
+    → ((greeting shared 65 Imap 64).answer ≡ codes "* BYE too many sessions\r\n") × ((greeting shared 65 Imap 64).closes ≡ true) × ((greeting shared 65 Imap 63).answer ≡ codes "* OK IMAP4rev1 ready\r\n")
 unfolding greeting
-too_many world = (refl, refl, refl)
+too_many shared = (refl, refl, refl)
 
 -- Two pieces that cut a command, then a line that is none, then a line that isn't whole; the newest event is first.
 session : (world : World)
     → (machine world (Piece 1 (codes "OP\r\nNOOP\r\nb NO") 20 ∷ Piece 1 (codes "a NO") 10 ∷ Opened 1 Imap ∷ [])).out 1 ≡ codes "* OK IMAP4rev1 ready\r\na OK NOOP completed\r\n* BAD syntax\r\n"
-unfolding machine serve take_piece first shown step greeting parsed
+unfolding machine take_byte left_by first shown step greeting parsed
 session world = refl
 
 -- A link of another protocol is told so, and what comes by it after that is not served.
 refused : (world : World)
     → (machine world (Piece 1 (codes "a NOOP\r\n") 10 ∷ Opened 1 Lmtp ∷ [])).out 1 ≡ codes "421 4.3.2 LMTP is not served\r\n"
-unfolding machine serve take_piece first shown step greeting parsed
+unfolding machine take_byte left_by first shown step greeting parsed
 refused world = refl
 
 -- What stands behind LOGOUT is dropped, and the end of a session that is closing changes nothing.
 logged_out : (world : World)
     → (machine world (Piece 1 (codes "c NOOP\r\n") 11 ∷ Ended 1 ∷ Piece 1 (codes "a LOGOUT\r\nb NOOP\r\n") 10 ∷ Opened 1 Imap ∷ [])).out 1
     ≡ codes "* OK IMAP4rev1 ready\r\n* BYE logging out\r\na OK LOGOUT completed\r\n"
-unfolding machine serve take_piece first shown step greeting parsed
+unfolding machine take_byte left_by first shown step greeting parsed
 logged_out world = refl

@@ -2,7 +2,7 @@
 use Rattle.std.proofs.Common.{ℕ, ◌≡◌, ◌==◌, Bool, true, false, List, [], ◌∷◌, ◌++◌, Option, Some, None, cond, refl, sym, append-nil}
 use Rattle.port_model.specs.History.{PortEvent, Opened, Piece, Ended, Lost}
 use Rattle.mail_model.specs.Machine.{Machine, Session, Taking, takes, session_at, take_event, machine, hears_piece, leaves}
-use Rattle.mail_model.specs.Step.{World}
+use Rattle.mail_model.specs.Step.{Shared, World}
 
 -- one list begins with the other
 abbrev pub Grows : List ℕ → List ℕ → Type 0
@@ -12,11 +12,11 @@ added : (same : Bool) (old answers : List ℕ) → Grows old (cond same (old ++ 
 added true old answers = (answers, refl)
 added false old answers = ([], sym (append-nil old))
 
-of_session-grows : (m : Machine) (number who : ℕ) (act : World → Session → Taking) (found : Option Session)
-    → Grows (m.out number) ((elim found as (λ f. Machine) [ None ↦ m | Some session ↦ takes m (act m.world session) ]).out number)
+of_session-grows : (m : Machine) (number who : ℕ) (act : Shared → Session → Taking) (found : Option Session)
+    → Grows (m.out number) ((elim found as (λ f. Machine) [ None ↦ m | Some session ↦ takes m (act m.shared session) ]).out number)
 of_session-grows m number who act None = ([], sym (append-nil (m.out number)))
 of_session-grows m number who act (Some session) =
-    added (number == (act m.world session).session.number) (m.out number) (act m.world session).answers
+    added (number == (act m.shared session).session.number) (m.out number) (act m.shared session).answers
 
 grows : (m : Machine) (event : PortEvent) (number : ℕ) → Grows (m.out number) ((take_event m event).out number)
 grows m (Opened who kind) number = added (number == who) (m.out number) _

@@ -1,3 +1,3 @@
-pub mod OneByOne
+pub mod Units
 pub mod Growing
 mod Examples

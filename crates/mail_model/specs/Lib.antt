@@ -1,4 +1,4 @@
 pub mod Commands
 pub mod Step
 pub mod Machine
-pub mod Bytes
+pub mod Pieces

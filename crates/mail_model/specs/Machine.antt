@@ -1,12 +1,13 @@
 -- The machine: sessions over one world, which take the events of their links in order.
-use Rattle.std.specs.Prelude.{ℕ, zero, suc, ◌==◌, Bool, true, false, List, [], ◌∷◌, ◌++◌, Option, Some, None, length, map, find, count_by, if◌then◌else◌}
+use Rattle.std.specs.Prelude.{ℕ, ◌+◌, ◌<◌, ◌==◌, Bool, true, false, List, [], ◌∷◌, ◌++◌, Option, Some, None, codes, length, map, find, count_by, if◌then◌else◌}
 use Rattle.port_model.specs.declared.calls.PortCall.{PortCall}
-use Rattle.port_model.specs.History.{PortEvent, Opened, Piece, Ended, Lost, events}
+use Rattle.port_model.specs.History.{PortEvent, Opened, Piece, Ended, Lost, events, sent}
 use Rattle.imap_lexer.specs.declared.units.Form.{Form}
-use Rattle.imap_lexer.specs.Units.{Cut, first}
+use Rattle.imap_lexer.specs.Units.{Cut, first, is_prompted, shown}
 use Rattle.mail_model.specs.declared.standing.Standing.{Standing}
 use Rattle.mail_model.specs.declared.standing.Standing.TheVariants.{Open, Closing}
-use Rattle.mail_model.specs.Step.{World, Stepped, step, greeting, left_by}
+use Rattle.mail_model.specs.Commands.{crlf}
+use Rattle.mail_model.specs.Step.{World, Change, Shared, Stepped, step, greeting, left_by, after_step}
 
 -- A session: its number, how its link stands, the form of the unit that it awaits, and the bytes that are no whole
 -- unit yet.
@@ -16,19 +17,29 @@ pub record Session : Type 0 where
   pub form : Form
   pub rest : List ℕ
 
--- The world, the sessions that ever opened in the order of their opening, all that each number was answered, and the
--- number of the latest session, 0 before the first.
+-- A change that a step made: the session that it answered, and which of that session's answers its answer is, from so
+-- many bytes on so many.
+pub record Made : Type 0 where
+  pub change : Change
+  pub number : ℕ
+  pub from : ℕ
+  pub count : ℕ
+
+-- What sessions share, the sessions that ever opened in the order of their opening, all that each number was answered,
+-- the changes that were made, the newest first, and the number of the latest session, 0 before the first.
 pub record Machine : Type 0 where
-  pub world : World
+  pub shared : Shared
   pub sessions : List Session
   pub out : ℕ → List ℕ
+  pub changes : List Made
   pub last : ℕ
 
--- One session with the world, as its units are taken, and what it is answered for them.
+-- One session with what is shared, as its bytes are taken, what it is answered for them, and the changes that they made.
 pub record Taking : Type 0 where
-  pub world : World
+  pub shared : Shared
   pub session : Session
   pub answers : List ℕ
+  pub changes : List Made
 
 abbrev pub is_open : Standing → Bool
 is_open Open = true
@@ -38,32 +49,51 @@ is_open Closing = false
 abbrev pub standing_after : Bool → Standing
 standing_after closes = if closes then Closing else Open
 
--- the session with these bytes as its rest
-abbrev pub with_rest : Taking → List ℕ → Taking
-with_rest taking bytes =
-    record { world = taking.world; session = record { number = taking.session.number; standing = taking.session.standing; form = taking.session.form; rest = bytes }; answers = taking.answers }
+-- changes with that of a step in front, if it made one
+abbrev pub and_change : Option Change → ℕ → ℕ → ℕ → List Made → List Made
+and_change None number from count older = older
+and_change (Some change) number from count older = record { change = change; number = number; from = from; count = count } ∷ older
 
 -- what a unit leaves
 abbrev pub after_unit : Taking → Stepped → Taking
 after_unit taking stepped =
-    record { world = stepped.world; session = record { number = taking.session.number; standing = standing_after stepped.closes; form = stepped.next; rest = [] }; answers = taking.answers ++ stepped.answer }
+    record {
+      shared = after_step taking.shared taking.session.number stepped;
+      session = record { number = taking.session.number; standing = standing_after stepped.closes; form = stepped.next; rest = [] };
+      answers = taking.answers ++ stepped.answer;
+      changes = and_change stepped.change taking.session.number (length taking.answers) (length stepped.answer) taking.changes;
+    }
 
 abbrev pub take_unit : ℕ → Taking → Cut → Taking
-take_unit moment taking cut = after_unit taking (step taking.world taking.session.number taking.session.form cut.shows cut.unit moment)
+take_unit moment taking cut = after_unit taking (step taking.shared taking.session.number taking.session.form cut.shows cut.unit moment)
 
--- Units are cut off some bytes as long as there is one, and each is one step. What is behind the last unit is the rest,
--- and what is behind a unit that closes the session is dropped. There are no more units than bytes, which bounds the turns.
-unfoldable pub serve : ℕ → ℕ → Taking → List ℕ → Taking
-serve zero moment taking bytes = with_rest taking bytes
-serve (suc turns) moment taking bytes =
+-- the prompt after which a peer sends the literal that it announced (RFC 3501 §7.5)
+abbrev pub go_ahead : List ℕ
+go_ahead = codes "+ go ahead" ++ crlf
+
+-- what bytes that are no whole unit yet leave: a prompt is added where they end with an announcement
+abbrev pub awaits_more : Taking → List ℕ → Taking
+awaits_more taking bytes =
+    record {
+      shared = taking.shared;
+      session = record { number = taking.session.number; standing = taking.session.standing; form = taking.session.form; rest = bytes };
+      answers = if is_prompted (shown taking.session.form bytes) then taking.answers ++ go_ahead else taking.answers;
+      changes = taking.changes;
+    }
+
+-- What one more byte leaves: it is joined to the bytes that are no whole unit yet. Where they are a unit then, that is
+-- one step. What comes to a session that is closing is dropped.
+unfoldable pub take_byte : ℕ → Taking → ℕ → Taking
+take_byte moment taking byte =
+    let bytes = taking.session.rest ++ byte ∷ [] in
     if is_open taking.session.standing
-    then elim (first taking.session.form bytes) [ None ↦ with_rest taking bytes | Some cut ↦ serve turns moment (take_unit moment taking cut) cut.rest ]
-    else with_rest taking []
+    then elim (first taking.session.form bytes) [ None ↦ awaits_more taking bytes | Some cut ↦ take_unit moment taking cut ]
+    else taking
 
--- A piece is joined to the bytes that are no whole unit yet.
-unfoldable pub take_piece : ℕ → Taking → List ℕ → Taking
-take_piece moment taking piece =
-    let bytes = taking.session.rest ++ piece in serve (length bytes) moment (with_rest taking []) bytes
+-- the bytes of a piece are taken one after another
+abbrev pub take_piece : ℕ → Taking → List ℕ → Taking
+take_piece moment taking [] = taking
+take_piece moment taking (byte ∷ bytes) = take_piece moment (take_byte moment taking byte) bytes
 
 -- the session of a number
 abbrev pub session_at : ℕ → List Session → Option Session
@@ -81,47 +111,63 @@ adds number answers out who = if who == number then out who ++ answers else out 
 abbrev pub at_once : List Session → ℕ
 at_once sessions = count_by (λ session. is_open session.standing) sessions
 
+-- a change whose answer stands behind so many bytes more
+abbrev pub behind : ℕ → Made → Made
+behind count made = record { change = made.change; number = made.number; from = count + made.from; count = made.count }
+
 -- the machine after a session of it took something
 abbrev pub takes : Machine → Taking → Machine
 takes machine taking =
-    record { world = taking.world; sessions = becomes taking.session machine.sessions; out = adds taking.session.number taking.answers machine.out; last = machine.last }
+    record {
+      shared = taking.shared;
+      sessions = becomes taking.session machine.sessions;
+      out = adds taking.session.number taking.answers machine.out;
+      changes = map (behind (length (machine.out taking.session.number))) taking.changes ++ machine.changes;
+      last = machine.last;
+    }
 
 -- a session of a machine, with no answers yet
-abbrev pub taking_of : World → Session → Taking
-taking_of world session = record { world = world; session = session; answers = [] }
+abbrev pub taking_of : Shared → Session → Taking
+taking_of shared session = record { shared = shared; session = session; answers = []; changes = [] }
 
 -- a session's part in what its link gave
-abbrev pub hears_piece : ℕ → List ℕ → World → Session → Taking
-hears_piece moment piece world session =
-    if is_open session.standing then take_piece moment (taking_of world session) piece else taking_of world session
+abbrev pub hears_piece : ℕ → List ℕ → Shared → Session → Taking
+hears_piece moment piece shared session = take_piece moment (taking_of shared session) piece
 
--- A session whose link ended or was lost is closing. If it was so before, nothing changes.
-abbrev pub leaves : World → Session → Taking
-leaves world session =
+-- A session whose link ended or was lost is closing, and takes leave. If it was so before, nothing changes.
+abbrev pub leaves : Shared → Session → Taking
+leaves shared session =
     if is_open session.standing
-    then record { world = left_by world session.number; session = record { number = session.number; standing = Closing; form = session.form; rest = session.rest }; answers = [] }
-    else taking_of world session
+    then record { shared = left_by shared session.number; session = record { number = session.number; standing = Closing; form = session.form; rest = session.rest }; answers = []; changes = [] }
+    else taking_of shared session
 
 -- the machine after the session of a number, where there is one, did something
-abbrev pub of_session : Machine → ℕ → (World → Session → Taking) → Machine
+abbrev pub of_session : Machine → ℕ → (Shared → Session → Taking) → Machine
 of_session machine number act =
-    elim (session_at number machine.sessions) [ None ↦ machine | Some session ↦ takes machine (act machine.world session) ]
+    elim (session_at number machine.sessions) [ None ↦ machine | Some session ↦ takes machine (act machine.shared session) ]
 
+-- the machine with a new session, once it was greeted
 abbrev pub opens : Machine → ℕ → Stepped → Machine
 opens machine number greeted =
-    record { world = greeted.world; sessions = machine.sessions ++ record { number = number; standing = standing_after greeted.closes; form = greeted.next; rest = [] } ∷ []; out = adds number greeted.answer machine.out; last = number }
+    record {
+      shared = after_step machine.shared number greeted;
+      sessions = machine.sessions ++ record { number = number; standing = standing_after greeted.closes; form = greeted.next; rest = [] } ∷ [];
+      out = adds number greeted.answer machine.out;
+      changes = and_change greeted.change number (length (machine.out number)) (length greeted.answer) machine.changes;
+      last = number;
+    }
 
--- What an event does: a new session is greeted, a piece is taken unit by unit, and a session whose peer ended or whose
+-- What an event does: a new session is greeted, a piece is taken byte by byte, and a session whose peer ended or whose
 -- link is lost is served no more. Nothing happens to a session that is closing.
 abbrev pub take_event : Machine → PortEvent → Machine
-take_event machine (Opened number kind) = opens machine number (greeting machine.world number kind (at_once machine.sessions))
+take_event machine (Opened number kind) = opens machine number (greeting machine.shared number kind (at_once machine.sessions))
 take_event machine (Piece number piece moment) = of_session machine number (hears_piece moment piece)
 take_event machine (Ended number) = of_session machine number leaves
 take_event machine (Lost number) = of_session machine number leaves
 
 -- the machine before any event
 abbrev pub start : World → Machine
-start world = record { world = world; sessions = []; out = λ number. []; last = 0 }
+start world = record { shared = record { world = world; parts = [] }; sessions = []; out = λ number. []; changes = []; last = 0 }
 
 -- the machine after events, of which the newest is first
 unfoldable pub machine : World → List PortEvent → Machine
@@ -131,3 +177,7 @@ machine world (event ∷ older) = take_event (machine world older) event
 -- the machine after a history of calls on ports
 abbrev pub after : World → List PortCall → Machine
 after world history = machine world (events history)
+
+-- A change is handed out where a byte of its answer was sent.
+abbrev pub IsHandedOut : List PortCall → Made → Type 0
+IsHandedOut history made = (0 < made.count) × (made.from < length (sent history made.number))

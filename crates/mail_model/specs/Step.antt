@@ -1,23 +1,56 @@
 -- What one unit of one session does.
-use Rattle.std.specs.Prelude.{ℕ, Bool, true, false, List, ◌++◌, codes, nat_lt, if◌then◌else◌}
+use Rattle.std.specs.Prelude.{ℕ, ◌==◌, not, Bool, true, false, List, [], ◌∷◌, ◌++◌, Option, Some, None, codes, filter, nat_lt, if◌then◌else◌}
+use Rattle.std.specs.List.{list_any}
 use Rattle.port_model.specs.declared.calls.Kind.{Kind}
 use Rattle.port_model.specs.declared.calls.Kind.TheVariants.{Imap, Lmtp}
 use Rattle.imap_lexer.specs.declared.units.Form.{Form}
 use Rattle.imap_lexer.specs.declared.units.Form.TheVariants.{Command as AwaitsCommand}
-use Rattle.imap_lexer.specs.declared.units.Fed.{Fed}
-use Rattle.imap_lexer.specs.declared.units.Fed.TheVariants.{More, Unit as Whole, LineTooLong}
+use Rattle.imap_lexer.specs.declared.units.Shown.{Shown}
+use Rattle.imap_lexer.specs.declared.units.Shown.TheVariants.{Unit as Whole, LineTooLong}
+use Rattle.mail_model.specs.declared.session_part.SessionPart.{SessionPart}
 use Rattle.mail_model.specs.Commands.{Capability, Noop, Logout, Parsed, Tagged, BadTagged, BadUntagged, parsed, crlf}
 
--- What all sessions share. It has no mail yet.
+-- The world of mail. It has no mail yet.
 pub record World : Type 0 where
 
--- What a step leaves: the world, the answer to the session, whether the session is to be closed once its answers are
--- sent, and the form of the unit that it awaits next.
-pub record Stepped : Type 0 where
+-- A change of the world. There is none yet.
+pub data Change : Type 0 where
+
+-- the world after a change, if there is one
+abbrev pub changed : World → Option Change → World
+changed world None = world
+changed world (Some change) = world
+
+-- What sessions share: the world of mail, and their own parts, in the order of their opening.
+pub record Shared : Type 0 where
   pub world : World
+  pub parts : List SessionPart
+
+-- What a step leaves: at most one change of the world, the answer to the session, the sessions' own parts after it,
+-- whether the session is to be closed once its answers are sent, and the form of the unit that it awaits next.
+pub record Stepped : Type 0 where
+  pub change : Option Change
   pub answer : List ℕ
+  pub parts : List SessionPart
   pub closes : Bool
   pub next : Form
+
+-- What is left of what sessions share once a session took leave: its own part is gone.
+unfoldable pub left_by : Shared → ℕ → Shared
+left_by shared number = record { world = shared.world; parts = filter (λ part. not (part.number == number)) shared.parts }
+
+-- whether a session has its own part in what sessions share
+abbrev pub has_part : ℕ → Shared → Bool
+has_part number shared = list_any (λ part. part.number == number) shared.parts
+
+-- what sessions share once a step was made
+abbrev pub stepped_to : Shared → Stepped → Shared
+stepped_to shared stepped = record { world = changed shared.world stepped.change; parts = stepped.parts }
+
+-- the same once a session that the step closes took leave
+abbrev pub after_step : Shared → ℕ → Stepped → Shared
+after_step shared number stepped =
+    if stepped.closes then left_by (stepped_to shared stepped) number else stepped_to shared stepped
 
 -- the line of a command that was done (RFC 3501 §7.1.1)
 abbrev pub completed : List ℕ → List ℕ → List ℕ
@@ -36,43 +69,43 @@ abbrev pub bye : List ℕ → List ℕ
 bye reason = codes "* BYE " ++ reason ++ crlf
 
 -- an answer after which the session goes on
-abbrev pub answered : World → List ℕ → Stepped
-answered world answer = record { world = world; answer = answer; closes = false; next = AwaitsCommand }
+abbrev pub answered : Shared → List ℕ → Stepped
+answered shared answer = record { change = None; answer = answer; parts = shared.parts; closes = false; next = AwaitsCommand }
 
 -- an answer after which the link is closed
-abbrev pub answered_last : World → List ℕ → Stepped
-answered_last world answer = record { world = world; answer = answer; closes = true; next = AwaitsCommand }
+abbrev pub answered_last : Shared → List ℕ → Stepped
+answered_last shared answer = record { change = None; answer = answer; parts = shared.parts; closes = true; next = AwaitsCommand }
 
-abbrev pub executed : World → Parsed → Stepped
-executed world (Tagged tag Capability) = answered world (capabilities ++ completed tag (codes "CAPABILITY"))
-executed world (Tagged tag Noop) = answered world (completed tag (codes "NOOP"))
-executed world (Tagged tag Logout) = answered_last world (bye (codes "logging out") ++ completed tag (codes "LOGOUT"))
-executed world (BadTagged tag) = answered world (bad_syntax tag)
-executed world BadUntagged = answered world (bad_syntax (codes "*"))
+abbrev pub executed : Shared → Parsed → Stepped
+executed shared (Tagged tag Capability) = answered shared (capabilities ++ completed tag (codes "CAPABILITY"))
+executed shared (Tagged tag Noop) = answered shared (completed tag (codes "NOOP"))
+executed shared (Tagged tag Logout) = answered_last shared (bye (codes "logging out") ++ completed tag (codes "LOGOUT"))
+executed shared (BadTagged tag) = answered shared (bad_syntax tag)
+executed shared BadUntagged = answered shared (bad_syntax (codes "*"))
 
 -- what a unit does, by what it shows
-abbrev pub shown_step : World → Fed → List ℕ → Stepped
-shown_step world LineTooLong unit = answered_last world (bye (codes "line too long"))
-shown_step world Whole unit = executed world (parsed unit)
-shown_step world More unit = executed world (parsed unit)
+abbrev pub shown_step : Shared → Shown → List ℕ → Stepped
+shown_step shared LineTooLong unit = answered_last shared (bye (codes "line too long"))
+shown_step shared Whole unit = executed shared (parsed unit)
 
 -- What a unit of the session of a number does, with the form in which it was awaited, what it shows, and the moment
 -- of its last byte in seconds since 1970.
-unfoldable pub step : World → ℕ → Form → Fed → List ℕ → ℕ → Stepped
-step world number form shows unit moment = shown_step world shows unit
+unfoldable pub step : Shared → ℕ → Form → Shown → List ℕ → ℕ → Stepped
+step shared number form shows unit moment = shown_step shared shows unit
 
 -- How many sessions are served at once.
 abbrev pub session_limit : ℕ
 session_limit = 64
 
+-- a greeting, with the own part of the new session behind the others
+abbrev pub greeted : Shared → ℕ → List ℕ → Bool → Stepped
+greeted shared number answer closes =
+    record { change = None; answer = answer; parts = shared.parts ++ record { number = number } ∷ []; closes = closes; next = AwaitsCommand }
+
 -- What a new session of a kind is greeted with, where so many sessions are open beside it (RFC 3501 §7.1.1). A session
 -- too many is told so and closed. LMTP is not served yet: its links are told so and closed (RFC 5321 §3.8).
-unfoldable pub greeting : World → ℕ → Kind → ℕ → Stepped
-greeting world number Imap others =
-    if nat_lt others session_limit then answered world (codes "* OK IMAP4rev1 ready" ++ crlf)
-    else answered_last world (bye (codes "too many sessions"))
-greeting world number Lmtp others = answered_last world (codes "421 4.3.2 LMTP is not served" ++ crlf)
-
--- What is left of the world once the link of a session ended or was lost.
-unfoldable pub left_by : World → ℕ → World
-left_by world number = world
+unfoldable pub greeting : Shared → ℕ → Kind → ℕ → Stepped
+greeting shared number Imap others =
+    if nat_lt others session_limit then greeted shared number (codes "* OK IMAP4rev1 ready" ++ crlf) false
+    else greeted shared number (bye (codes "too many sessions")) true
+greeting shared number Lmtp others = greeted shared number (codes "421 4.3.2 LMTP is not served" ++ crlf) true

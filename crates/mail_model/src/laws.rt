@@ -1,26 +1,46 @@
 //! Laws of the machine, each the contract of a function that does nothing.
 
-ghost use Rattle.std.specs.Prelude.{ℕ, ◌≡◌, ◌∷◌, ◌++◌, List, if◌then◌else◌};
+ghost use Rattle.std.specs.Prelude.{ℕ, ◌≡◌, ◌∷◌, ◌++◌, List, None, Some, true, false};
 ghost use Rattle.port_model.specs.History.{PortEvent};
-ghost use Rattle.mail_model.specs.Step.{World};
-ghost use Rattle.mail_model.specs.Machine.{Taking, is_open, take_piece, machine};
-ghost use Rattle.mail_model.specs.Bytes.{take_bytes, IsAwaiting};
+ghost use Rattle.imap_lexer.specs.Units.{Cut, first};
+ghost use Rattle.mail_model.specs.Step.{Shared, Stepped, World, has_part};
+ghost use Rattle.mail_model.specs.Machine.{Machine, Session, Taking, after_unit, is_open, leaves, machine, opens, take_piece};
+ghost use Rattle.mail_model.specs.Pieces.{IsAwaiting, OpenAwait, TakesUnit, goes_on};
 
 use imap_lexer::units_end_where_they_end;
 
-/// A law of sessions: it doesn't matter how what a peer sends is cut into pieces, down to single bytes.
+/// Laws of sessions: it matters neither how what a peer sends is cut into pieces, nor when bytes come that end no unit.
 pub fn units_whatever_the_pieces()
-    // One piece is all its bytes, one by one.
-    ensures bytes { (moment : ℕ) (taking : Taking) (piece : List ℕ) → IsAwaiting taking
-        → take_piece moment taking piece ≡ take_bytes moment taking piece }
+    // Two pieces are one, whatever they hold.
+    ensures pieces { (moment : ℕ) (taking : Taking) (piece later : List ℕ) → take_piece moment (take_piece moment taking piece) later ≡ take_piece moment taking (piece ++ later) }
 
-    // Two pieces, where the first doesn't close the session, are one.
-    ensures pieces { (moment : ℕ) (taking : Taking) (piece later : List ℕ) → IsAwaiting taking
-        → (let mid = take_piece moment taking piece in if is_open mid.session.standing then take_piece moment mid later else mid)
-        ≡ take_piece moment taking (piece ++ later) }
+    // A piece that ends no unit counts as if it had come with the next one, at that one's moment.
+    ensures moments { (earlier moment : ℕ) (taking : Taking) (piece later : List ℕ) → IsAwaiting taking.session → first taking.session.form (taking.session.rest ++ piece) ≡ None
+        → take_piece moment (take_piece earlier taking piece) later ≡ take_piece moment taking (piece ++ later) }
+
+    // Such a piece does nothing but add the prompts that it asks for, and is joined to the rest.
+    ensures none { (moment : ℕ) (taking : Taking) (piece : List ℕ) → IsAwaiting taking.session → first taking.session.form (taking.session.rest ++ piece) ≡ None
+        → (take_piece moment taking piece ≡ goes_on taking piece) × ((take_piece moment taking piece).session.rest ≡ taking.session.rest ++ piece) }
+
+    // Where the rest and a piece have a first unit, that is one step, at its last byte.
+    ensures unit { (moment : ℕ) (taking : Taking) (piece : List ℕ) (cut : Cut) → IsAwaiting taking.session → first taking.session.form (taking.session.rest ++ piece) ≡ Some cut
+        → TakesUnit moment taking piece cut }
 {
     units_end_where_they_end();
 }
+
+/// A law of the machine: every session that is open awaits a unit, so none stands whole in its rest.
+pub fn open_sessions_await_a_unit()
+    ensures { (world : World) (events : List PortEvent) → OpenAwait (machine world events).sessions }
+{}
+
+/// Laws of closing: a session that a step or the end of its link closes has no part any more in what sessions share,
+/// whatever the step.
+pub fn closing_takes_leave()
+    ensures stepped { (taking : Taking) (stepped : Stepped) → stepped.closes ≡ true → has_part taking.session.number (after_unit taking stepped).shared ≡ false }
+    ensures greeted { (before : Machine) (number : ℕ) (greeted : Stepped) → greeted.closes ≡ true → has_part number (opens before number greeted).shared ≡ false }
+    ensures ended { (shared : Shared) (session : Session) → is_open session.standing ≡ true → has_part session.number (leaves shared session).shared ≡ false }
+{}
 
 /// A law of the machine: what a session was answered is never taken back.
 pub fn answers_only_grow()

@@ -5,7 +5,11 @@
 #![tactic(auto)]
 
 mod laws;
+mod session_part;
 mod standing;
 
-pub use laws::{answers_only_grow, units_whatever_the_pieces};
+pub use laws::{
+    answers_only_grow, closing_takes_leave, open_sessions_await_a_unit, units_whatever_the_pieces,
+};
+pub use session_part::SessionPart;
 pub use standing::Standing;

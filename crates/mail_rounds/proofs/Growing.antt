@@ -11,14 +11,13 @@ use Rattle.port_model.specs.Streams.{moment}
 use Rattle.port_model.specs.History.{Piece, Ended, Lost, sent}
 use Rattle.mail_model.specs.declared.standing.Standing.{Standing}
 use Rattle.mail_model.specs.declared.standing.Standing.TheVariants.{Open, Closing}
-use Rattle.mail_model.specs.Step.{World}
-use Rattle.mail_model.specs.Machine.{Session, Taking, is_open, leaves, taking_of, take_piece, hears_piece}
-use Rattle.mail_model.specs.Bytes.{take_bytes, IsAwaiting}
+use Rattle.mail_model.specs.Step.{Shared}
+use Rattle.mail_model.specs.Machine.{Session, Taking, is_open, leaves, taking_of, take_piece}
 use Rattle.mail_rounds.specs.declared.shared.Core.{Core}
 use Rattle.mail_rounds.specs.declared.link.Link.{Link}
-use Rattle.mail_rounds.specs.Core.{IsWorld}
+use Rattle.mail_rounds.specs.Core.{IsShared}
 use Rattle.mail_rounds.specs.Calls.{Grows, Asks, AsksIdle, ReadsOnce, read_room}
-use Rattle.mail_rounds.specs.Held.{session_of, taking_in}
+use Rattle.mail_rounds.specs.Held.{session_of}
 use Rattle.mail_rounds.specs.Heard.{Hears, Offered, IsTaking}
 
 pub grows_one : (Calls : List PortCall → List PortCall → Type 0) (call : PortCall) (old new : Option (List PortCall)) → Records call old new
@@ -39,14 +38,14 @@ grows_two Calls call call' (Some before) (Some mid) (Some later) one two each =
 pub no_items : (bytes : List ℕ) (count : ℕ) → count ≡ length bytes → true ≡ (count == 0) → bytes ≡ []
 no_items bytes count same h = nil_from_length bytes (let e : count ≡ 0 = search rules in sym same ∙ e)
 
-leaves-silent : (world : World) (session : Session) (opened : Bool) → is_open session.standing ≡ opened → (leaves world session).answers ≡ []
-leaves-silent world session true o = rw o refl
-leaves-silent world session false o = rw o refl
+leaves-silent : (shared : Shared) (session : Session) (opened : Bool) → is_open session.standing ≡ opened → (leaves shared session).answers ≡ []
+leaves-silent shared session true o = rw o refl
+leaves-silent shared session false o = rw o refl
 
 -- The peer of a link closed its side.
 pub hears_end : (core : Core) (link : Link) (core' : Core) (link' : Link) (old new : Option (List PortCall)) → (room : ℕ) → Records (Read link.number room HasEnded) old new
-    → is_open link.standing ≡ true → link.queue.items ≡ [] → link'.queue.items ≡ [] → ((world : World) → session_of link' ≡ (leaves world (session_of link)).session)
-    → ((world : World) → IsWorld core world → IsWorld core' (leaves world (session_of link)).world) → Grows (Hears core link core' link') old new
+    → is_open link.standing ≡ true → link.queue.items ≡ [] → link'.queue.items ≡ [] → ((shared : Shared) → session_of link' ≡ (leaves shared (session_of link)).session)
+    → ((shared : Shared) → IsShared core shared → IsShared core' (leaves shared (session_of link)).shared) → Grows (Hears core link core' link') old new
 hears_end core link core' link' old new room recorded o q q' s left =
     grows_one (Hears core link core' link') (Read link.number room HasEnded) old new recorded
     (λ before. record {
@@ -58,13 +57,13 @@ hears_end core link core' link' old new room recorded o q q' s left =
       same = λ none. absurd (cc);
       idle = λ some. q;
       was_open = λ some. o;
-      does = λ some world stands. record { world = left world stands; session = s world; answers = q' ∙ sym (leaves-silent world (session_of link) true o) };
+      does = λ some shared stands. record { stands = left shared stands; session = s shared; answers = q' ∙ sym (leaves-silent shared (session_of link) true o) };
     })
 
 -- A read found the link lost.
 pub hears_loss : (core : Core) (link : Link) (core' : Core) (link' : Link) (old new : Option (List PortCall)) → (room : ℕ) → Records (Read link.number room WasLost) old new
-    → is_open link.standing ≡ true → link.queue.items ≡ [] → link'.queue.items ≡ [] → ((world : World) → session_of link' ≡ (leaves world (session_of link)).session)
-    → ((world : World) → IsWorld core world → IsWorld core' (leaves world (session_of link)).world) → Grows (Hears core link core' link') old new
+    → is_open link.standing ≡ true → link.queue.items ≡ [] → link'.queue.items ≡ [] → ((shared : Shared) → session_of link' ≡ (leaves shared (session_of link)).session)
+    → ((shared : Shared) → IsShared core shared → IsShared core' (leaves shared (session_of link)).shared) → Grows (Hears core link core' link') old new
 hears_loss core link core' link' old new room recorded o q q' s left =
     grows_one (Hears core link core' link') (Read link.number room WasLost) old new recorded
     (λ before. record {
@@ -76,24 +75,16 @@ hears_loss core link core' link' old new room recorded o q q' s left =
       same = λ none. absurd (cc);
       idle = λ some. q;
       was_open = λ some. o;
-      does = λ some world stands. record { world = left world stands; session = s world; answers = q' ∙ sym (leaves-silent world (session_of link) true o) };
+      does = λ some shared stands. record { stands = left shared stands; session = s shared; answers = q' ∙ sym (leaves-silent shared (session_of link) true o) };
     })
-
--- a piece that an open session takes byte by byte
-hears_piece-bytes : (at : ℕ) (piece : List ℕ) (world : World) (link : Link) → is_open link.standing ≡ true → link.queue.items ≡ []
-    → take_piece at (taking_of world (session_of link)) piece ≡ take_bytes at (taking_of world (session_of link)) piece
-    → take_bytes at (taking_in world link) piece ≡ hears_piece at piece world (session_of link)
-hears_piece-bytes at piece world link o q e =
-    rw o (ap (λ (answers : List ℕ). take_bytes at (record { world = world; session = session_of link; answers = answers }) piece) q ∙ sym e)
 
 -- A link gave a piece.
 pub hears_bytes : (core : Core) (link : Link) (core' : Core) (link' : Link) (piece : List ℕ) (reading : ℕ) (old mid new : Option (List PortCall))
     → (room : ℕ) → Records (Read link.number room (Gave piece)) old mid → Records (Now reading) mid new
     → is_open link.standing ≡ true → link.queue.items ≡ []
-    → ((at : ℕ) (taking : Taking) (bytes : List ℕ) → IsAwaiting taking → take_piece at taking bytes ≡ take_bytes at taking bytes)
-    → ((world : World) → IsWorld core world → IsTaking core' link' (take_bytes (moment reading) (taking_in world link) piece))
+    → ((taking : Taking) → IsTaking core link taking → IsTaking core' link' (take_piece (moment reading) taking piece))
     → Grows (Hears core link core' link') old new
-hears_bytes core link core' link' piece reading old mid new room one two o q law did =
+hears_bytes core link core' link' piece reading old mid new room one two o q did =
     grows_two (Hears core link core' link') (Read link.number room (Gave piece)) (Now reading) old mid new one two
     (λ before. record {
       event = Some (Piece link.number piece (moment reading));
@@ -104,10 +95,7 @@ hears_bytes core link core' link' piece reading old mid new room one two o q law
       same = λ none. absurd (cc);
       idle = λ some. q;
       was_open = λ some. o;
-      does = λ some world stands.
-          subst (IsTaking core' link')
-          (hears_piece-bytes (moment reading) piece world link o q (law (moment reading) (taking_of world (session_of link)) piece (record { opened = o; no_unit = link.awaiting })))
-          (did world stands);
+      does = λ some shared stands. did (taking_of shared (session_of link)) (record { stands = stands; session = refl; answers = q });
     })
 
 equal-itself : (n : ℕ) → (n == n) ≡ true
@@ -125,8 +113,8 @@ lost_other number n before bytes other = rw (equal-other n number other) refl
 
 -- A send found the link lost.
 pub offered_lost : (core : Core) (link : Link) (core' : Core) (link' : Link) (old new : Option (List PortCall)) → Records (Send link.number link.queue.items SendLost) old new
-    → link'.queue.items ≡ [] → ((world : World) → session_of link' ≡ (leaves world (session_of link)).session)
-    → ((world : World) → IsWorld core world → IsWorld core' (leaves world (session_of link)).world) → Grows (Offered core link core' link') old new
+    → link'.queue.items ≡ [] → ((shared : Shared) → session_of link' ≡ (leaves shared (session_of link)).session)
+    → ((shared : Shared) → IsShared core shared → IsShared core' (leaves shared (session_of link)).shared) → Grows (Offered core link core' link') old new
 offered_lost core link core' link' old new recorded q s left =
     grows_one (Offered core link core' link') (Send link.number link.queue.items SendLost) old new recorded
     (λ before. record {
@@ -138,7 +126,7 @@ offered_lost core link core' link' old new recorded q s left =
       idle = λ none. (q, lost_same link.number before link.queue.items);
       whole = λ none. absurd (cc);
       dropped = λ some. (q, lost_same link.number before link.queue.items);
-      no_answer = λ world stands. (left world stands, s world);
+      no_answer = λ shared stands. (left shared stands, s shared);
       same = λ none. absurd (cc);
     })
 

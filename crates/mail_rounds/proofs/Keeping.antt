@@ -13,11 +13,11 @@ use Rattle.port_model.specs.History.{PortEvent, Opened, Piece, Ended, Lost, even
 use Rattle.imap_lexer.specs.declared.units.Form.{Form}
 use Rattle.imap_lexer.specs.Units.{first}
 use Rattle.imap_lexer.specs.Lexer.{Awaited}
-use Rattle.mail_model.specs.Step.{World, Stepped, greeting}
+use Rattle.mail_model.specs.Step.{World, Shared, Stepped, after_step, greeting, stepped_to}
 use Rattle.mail_model.specs.Machine.{Machine, Session, hears_piece, leaves, adds, Taking, of_session, is_open, session_at, becomes, at_once, takes, opens, take_event, machine, after, standing_after}
 use Rattle.mail_rounds.specs.declared.shared.Core.{Core}
 use Rattle.mail_rounds.specs.declared.link.Link.{Link}
-use Rattle.mail_rounds.specs.Core.{IsWorld, IsStep}
+use Rattle.mail_rounds.specs.Core.{IsShared, IsStep}
 use Rattle.mail_rounds.specs.Held.{Held, session_of, queue_of, Ascending}
 use Rattle.mail_rounds.specs.Heard.{IsOfLink, IsLossOf, and_event, acts, IsTaking, Hears, Offered}
 use Rattle.mail_rounds.specs.Serves.{is_kept, is_loss, is_lost, Answered, OpenAreKept, Serves, Keeps, IsGreeted, Opens}
@@ -53,7 +53,7 @@ record Becomes (before : List PortCall) (front : List Link) (new : Link) (back :
 serves-link : (first : World) (before later : List PortCall) (core core' : Core) (front : List Link) (link new : Link) (back : List Link) (last : ℕ)
     → new.number ≡ link.number
     → Becomes before front new back (after first before) (after first later)
-    → IsWorld core' (after first later).world
+    → IsShared core' (after first later).shared
     → ((n : ℕ) → is_closed later n ≡ is_closed before n)
     → ((n : ℕ) → n ≢ link.number → sent later n ≡ sent before n)
     → ((n : ℕ) → n ≢ link.number → is_lost n (events later) ≡ is_lost n (events before))
@@ -65,7 +65,7 @@ serves-link first before later core core' front link new back last e becomes sta
     let ordered = ascending-becomes 0 front link new back last e serves.ordered in
     let within : link.number ≤ last = ascending-within link.number back last (ascending-here 0 front link back last serves.ordered).1 in
     record {
-      world = stands;
+      stands = stands;
       sessions = sym (kept-same before later (after first later).sessions closed_same ∙ becomes.kept);
       answered = λ n. cases new.number n
           (λ f. subst (λ (k : ℕ). Answered (is_lost k (events later)) (sent later k) (queue_of k (front ++ new ∷ back)) ((after first later).out k)) f
@@ -139,10 +139,10 @@ becomes-takes first before m' taking core front link new back last e s is serves
 
 -- Before any call.
 
-pub serves_start : (core : Core) (world : World) → IsWorld core world → Serves world [] (holding core [] 0)
+pub serves_start : (core : Core) (first : World) → IsShared core (record { world = first; parts = [] }) → Serves first [] (holding core [] 0)
 unfolding machine
-serves_start core world stands = record {
-  world = stands;
+serves_start core first stands = record {
+  stands = stands;
   sessions = refl;
   answered = λ n. record { whole = λ h. refl; front = λ h. absurd (cc h) };
   ordered = omega arith;
@@ -154,11 +154,11 @@ serves_start core world stands = record {
 
 -- What an event of one link does to the machine.
 
-of-session : (m : Machine) (number : ℕ) (act : World → Session → Taking) (s : Session) → session_at number m.sessions ≡ Some s → of_session m number act ≡ takes m (act m.world s)
-of-session m number act s at = ap (λ (found : Option Session). elim found as (λ f. Machine) [ None ↦ m | Some session ↦ takes m (act m.world session) ]) at
+of-session : (m : Machine) (number : ℕ) (act : Shared → Session → Taking) (s : Session) → session_at number m.sessions ≡ Some s → of_session m number act ≡ takes m (act m.shared s)
+of-session m number act s at = ap (λ (found : Option Session). elim found as (λ f. Machine) [ None ↦ m | Some session ↦ takes m (act m.shared session) ]) at
 
 event-takes : (m : Machine) (event : PortEvent) (number : ℕ) (s : Session) → IsOfLink number (Some event) → session_at number m.sessions ≡ Some s
-    → take_event m event ≡ takes m (acts (Some event) m.world s)
+    → take_event m event ≡ takes m (acts (Some event) m.shared s)
 event-takes m (Opened who kind) number s its found = absurd its
 event-takes m (Piece who piece moment) number s its found =
     let at : session_at who m.sessions ≡ Some s = subst (λ (n : ℕ). session_at n m.sessions ≡ Some s) (sym its) found in of-session m who (hears_piece moment piece) s at
@@ -167,15 +167,15 @@ event-takes m (Ended who) number s its found =
 event-takes m (Lost who) number s its found =
     let at : session_at who m.sessions ≡ Some s = subst (λ (n : ℕ). session_at n m.sessions ≡ Some s) (sym its) found in of-session m who leaves s at
 
-machine-event : (world : World) (event : PortEvent) (older : List PortEvent) → machine world (event ∷ older) ≡ take_event (machine world older) event
+machine-event : (first : World) (event : PortEvent) (older : List PortEvent) → machine first (event ∷ older) ≡ take_event (machine first older) event
 unfolding machine
-machine-event world event older = refl
+machine-event first event older = refl
 
-after-event : (world : World) (before later : List PortCall) (event : PortEvent) (number : ℕ) (s : Session)
-    → IsOfLink number (Some event) → events later ≡ event ∷ events before → session_at number (after world before).sessions ≡ Some s
-    → after world later ≡ takes (after world before) (acts (Some event) (after world before).world s)
-after-event world before later event number s its are found =
-    ap (machine world) are ∙ machine-event world event (events before) ∙ event-takes (after world before) event number s its found
+after-event : (first : World) (before later : List PortCall) (event : PortEvent) (number : ℕ) (s : Session)
+    → IsOfLink number (Some event) → events later ≡ event ∷ events before → session_at number (after first before).sessions ≡ Some s
+    → after first later ≡ takes (after first before) (acts (Some event) (after first before).shared s)
+after-event first before later event number s its are found =
+    ap (machine first) are ∙ machine-event first event (events before) ∙ event-takes (after first before) event number s its found
 
 -- What an event does to other sessions than that of its link, and to its own.
 
@@ -185,20 +185,20 @@ lost-other n number (Piece who piece moment) older its ne = refl
 lost-other n number (Ended who) older its ne = refl
 lost-other n number (Lost who) older its ne = rw (apart who n (λ f. ne (sym f ∙ its))) refl
 
-shuts : (world : World) (s : Session) (opened : Bool) → is_open s.standing ≡ opened
-    → (is_open (leaves world s).session.standing ≡ false) × ((leaves world s).answers ≡ []) × ((leaves world s).session.number ≡ s.number)
-shuts world s true o = rw o (refl, refl, refl)
-shuts world s false o = rw o (o, refl, refl)
+shuts : (shared : Shared) (s : Session) (opened : Bool) → is_open s.standing ≡ opened
+    → (is_open (leaves shared s).session.standing ≡ false) × ((leaves shared s).answers ≡ []) × ((leaves shared s).session.number ≡ s.number)
+shuts shared s true o = rw o (refl, refl, refl)
+shuts shared s false o = rw o (o, refl, refl)
 
 -- A session that was open isn't lost but by a loss, which answers nothing and leaves it shut.
-after-own : (event : PortEvent) (older : List PortEvent) (number : ℕ) (world : World) (s : Session) → is_lost number older ≡ false
-    → (is_open (acts (Some event) world s).session.standing ≡ true → is_lost number (event ∷ older) ≡ false)
-    × (is_lost number (event ∷ older) ≡ true → (acts (Some event) world s).answers ≡ [])
-after-own (Opened who kind) older number world s lives = (λ opened. lives, λ lost. refl)
-after-own (Piece who piece moment) older number world s lives = (λ opened. lives, λ lost. absurd (cc (lost, lives)))
-after-own (Ended who) older number world s lives = (λ opened. lives, λ lost. absurd (cc (lost, lives)))
-after-own (Lost who) older number world s lives =
-    let shut = shuts world s (is_open s.standing) refl in
+after-own : (event : PortEvent) (older : List PortEvent) (number : ℕ) (shared : Shared) (s : Session) → is_lost number older ≡ false
+    → (is_open (acts (Some event) shared s).session.standing ≡ true → is_lost number (event ∷ older) ≡ false)
+    × (is_lost number (event ∷ older) ≡ true → (acts (Some event) shared s).answers ≡ [])
+after-own (Opened who kind) older number shared s lives = (λ opened. lives, λ lost. refl)
+after-own (Piece who piece moment) older number shared s lives = (λ opened. lives, λ lost. absurd (cc (lost, lives)))
+after-own (Ended who) older number shared s lives = (λ opened. lives, λ lost. absurd (cc (lost, lives)))
+after-own (Lost who) older number shared s lives =
+    let shut = shuts shared s (is_open s.standing) refl in
     (λ opened. let bad : true ≡ false = sym opened ∙ shut.0 in cc, λ lost. shut.1)
 
 -- A link was asked.
@@ -236,19 +236,19 @@ hearing-event : (first : World) (before later : List PortCall) (core core' : Cor
     → IsOfLink link.number (Some event) → events later ≡ event ∷ events before
     → ((n : ℕ) → sent later n ≡ sent before n) → ((n : ℕ) → is_closed later n ≡ is_closed before n)
     → link.queue.items ≡ [] → is_open link.standing ≡ true
-    → ((world : World) → IsWorld core world → IsTaking core' new (acts (Some event) world (session_of link)))
+    → ((shared : Shared) → IsShared core shared → IsTaking core' new (acts (Some event) shared (session_of link)))
     → Serves first before (holding core (front ++ link ∷ back) last)
     → Serves first later (holding core' (front ++ new ∷ back) last)
 hearing-event first before later core core' front link new back last event e its are sent_same closed_same empty opened does serves =
     let m = after first before in
-    let taking : Taking = acts (Some event) m.world (session_of link) in
-    let done : IsTaking core' new taking = does m.world serves.world in
+    let taking : Taking = acts (Some event) m.shared (session_of link) in
+    let done : IsTaking core' new taking = does m.shared serves.stands in
     let lives = linked-at first before core front link back last serves opened in
-    let own = after-own event (events before) link.number m.world (session_of link) lives in
+    let own = after-own event (events before) link.number m.shared (session_of link) lives in
     let is : after first later ≡ takes m taking
     = after-event first before later event link.number (session_of link) its are (held-at first before core front link back last serves).1 in
     let number : link.number ≡ taking.session.number = sym e ∙ ap (λ (s : Session). s.number) done.session in
-    let stands : IsWorld core' (after first later).world = subst (λ (x : Machine). IsWorld core' x.world) (sym is) done.world in
+    let stands : IsShared core' (after first later).shared = subst (λ (x : Machine). IsShared core' x.shared) (sym is) done.stands in
     let out : (after first later).out link.number ≡ m.out link.number ++ taking.answers
     = ap (λ (x : Machine). x.out link.number) is ∙ adds-here link.number taking.session.number taking.answers m.out number in
     let was : sent before link.number ≡ m.out link.number
@@ -273,7 +273,7 @@ same-event : (first : World) (before later : List PortCall) (core core' : Core) 
     → Serves first later (holding core' (front ++ new ∷ back) last)
 same-event first before later core core' front link new back last e are closed_same sent_same c s answers serves =
     let is : after first later ≡ after first before = ap (machine first) are in
-    let stands : IsWorld core' (after first later).world = subst (λ (x : Machine). IsWorld core' x.world) (sym is) (subst (λ (x : Core). IsWorld x (after first before).world) (sym c) serves.world) in
+    let stands : IsShared core' (after first later).shared = subst (λ (x : Machine). IsShared core' x.shared) (sym is) (subst (λ (x : Core). IsShared x (after first before).shared) (sym c) serves.stands) in
     serves-link first before later core core' front link new back last e
     (becomes-same first before (after first later) core front link new back last e s is serves)
     stands closed_same sent_same
@@ -302,7 +302,7 @@ hearing-at first before later core core' front link new back last (Some event) h
     hearing-event first before later core core' front link new back last event e
     (subst (IsOfLink link.number) is hears.its) (hears.events_are ∙ ap (λ (x : Option PortEvent). and_event x (events before)) is)
     hears.sent_same hears.closed_same (hears.idle happens) (hears.was_open happens)
-    (λ world stands. subst (λ (x : Option PortEvent). IsTaking core' new (acts x world (session_of link))) is (hears.does happens world stands))
+    (λ shared stands. subst (λ (x : Option PortEvent). IsTaking core' new (acts x shared (session_of link))) is (hears.does happens shared stands))
     serves
 
 -- A link was offered its queue.
@@ -330,7 +330,7 @@ offered-loss : (first : World) (before later : List PortCall) (core core' : Core
     → IsLossOf link.number (Some event) → events later ≡ event ∷ events before
     → ((n : ℕ) → n ≢ link.number → sent later n ≡ sent before n) → ((n : ℕ) → is_closed later n ≡ is_closed before n)
     → new.queue.items ≡ [] → sent later link.number ≡ sent before link.number
-    → ((world : World) → IsWorld core world → (IsWorld core' (acts (Some event) world (session_of link)).world) × (session_of new ≡ (acts (Some event) world (session_of link)).session))
+    → ((shared : Shared) → IsShared core shared → (IsShared core' (acts (Some event) shared (session_of link)).shared) × (session_of new ≡ (acts (Some event) shared (session_of link)).session))
     → Serves first before (holding core (front ++ link ∷ back) last)
     → Serves first later (holding core' (front ++ new ∷ back) last)
 offered-loss first before later core core' front link new back last (Opened who kind) e its are sent_same closed_same empty sent_here does serves = absurd its
@@ -338,12 +338,12 @@ offered-loss first before later core core' front link new back last (Piece who p
 offered-loss first before later core core' front link new back last (Ended who) e its are sent_same closed_same empty sent_here does serves = absurd its
 offered-loss first before later core core' front link new back last (Lost who) e its are sent_same closed_same empty sent_here does serves =
     let m = after first before in
-    let taking : Taking = acts (Some (Lost who)) m.world (session_of link) in
-    let shut = shuts m.world (session_of link) (is_open link.standing) refl in
-    let done = does m.world serves.world in
+    let taking : Taking = acts (Some (Lost who)) m.shared (session_of link) in
+    let shut = shuts m.shared (session_of link) (is_open link.standing) refl in
+    let done = does m.shared serves.stands in
     let is : after first later ≡ takes m taking
     = after-event first before later (Lost who) link.number (session_of link) its are (held-at first before core front link back last serves).1 in
-    let stands : IsWorld core' (after first later).world = subst (λ (x : Machine). IsWorld core' x.world) (sym is) done.0 in
+    let stands : IsShared core' (after first later).shared = subst (λ (x : Machine). IsShared core' x.shared) (sym is) done.0 in
     let out : (after first later).out link.number ≡ m.out link.number ++ []
     = ap (λ (x : Machine). x.out link.number) is ∙ adds-here link.number taking.session.number taking.answers m.out (sym shut.2) ∙ ap (λ (x : List ℕ). m.out link.number ++ x) shut.1 in
     let itself : is_loss link.number (Lost who) ≡ true = same who link.number its in
@@ -376,7 +376,7 @@ offering-at first before later core core' front link new back last (Some event) 
     offered-loss first before later core core' front link new back last event e
     (subst (IsLossOf link.number) is offered.its) (offered.events_are ∙ ap (λ (x : Option PortEvent). and_event x (events before)) is)
     offered.sent_same offered.closed_same dropped.0 dropped.1
-    (λ world stands. subst (λ (x : Option PortEvent). (IsWorld core' (acts x world (session_of link)).world) × (session_of new ≡ (acts x world (session_of link)).session)) is (offered.no_answer world stands))
+    (λ shared stands. subst (λ (x : Option PortEvent). (IsShared core' (acts x shared (session_of link)).shared) × (session_of new ≡ (acts x shared (session_of link)).session)) is (offered.no_answer shared stands))
     serves
 
 -- A link that isn't open and has nothing to send is closed.
@@ -389,7 +389,7 @@ closing-at first history core front link back last shut empty serves =
     let m = after first history in
     let within : link.number ≤ last = ascending-within link.number back last (ascending-here 0 front link back last serves.ordered).1 in
     record {
-      world = serves.world;
+      stands = serves.stands;
       sessions = sym (kept-closing link.number history m.sessions ∙ ap (filter (λ session. not (link.number == session.number))) (sym serves.sessions) ∙ without-here 0 front link back last serves.ordered);
       answered = λ n. cases link.number n
           (λ e. subst (λ (k : ℕ). Answered (is_lost k (events history)) (sent history k) (queue_of k (front ++ back)) (m.out k)) e
@@ -410,7 +410,7 @@ closing-at first history core front link back last shut empty serves =
 -- A link of a new session stands behind the others.
 
 opening-at : (first : World) (history : List PortCall) (core core' : Core) (links : List Link) (link : Link) (last number : ℕ) (kind : Kind) (greeted : Stepped)
-    → IsGreeted core' link number greeted
+    → IsGreeted core' link (after first history).shared number greeted
     → after first (Accept number (Ok (Some kind)) ∷ history) ≡ opens (after first history) number greeted
     → number ≡ last + 1
     → Serves first history (holding core links last)
@@ -431,7 +431,7 @@ opening-at first history core core' links link last number kind greeted done is 
     let out : m'.out link.number ≡ m.out link.number ++ greeted.answer
     = ap (λ (x : Machine). x.out link.number) is ∙ adds-here link.number number greeted.answer m.out numbered in
     record {
-      world = subst (λ (x : Machine). IsWorld core' x.world) (sym is) done.world;
+      stands = subst (λ (x : Machine). IsShared core' x.shared) (sym is) done.stands;
       sessions = map-append session_of links (link ∷ []) ∙ ap (λ (ss : List Session). ss ++ session_of link ∷ []) serves.sessions
           ∙ sym (ap (filter (is_kept history)) all ∙ filter-append (is_kept history) m.sessions (session_of link ∷ []) ∙ ap (λ (ss : List Session). filter (is_kept history) m.sessions ++ ss) kept_new);
       answered = λ n. cases link.number n
@@ -467,37 +467,38 @@ pub keeps_opening : (first : World) (history : List PortCall) (held later : Held
 keeps_opening first history held later number kind opens follows serves =
     let m = after first history in
     let others : at_once (map session_of held.links) ≡ at_once m.sessions = ap at_once serves.sessions ∙ at_once-kept history m.sessions serves.open_kept in
-    let done : IsGreeted later.core opens.link number (greeting m.world number kind (at_once m.sessions))
-    = subst (λ (n : ℕ). IsGreeted later.core opens.link number (greeting m.world number kind n)) others (opens.greeted m.world serves.world) in
+    let done : IsGreeted later.core opens.link m.shared number (greeting m.shared number kind (at_once m.sessions))
+    = subst (λ (n : ℕ). IsGreeted later.core opens.link m.shared number (greeting m.shared number kind n)) others (opens.greeted m.shared serves.stands) in
     subst (λ (xs : List Link). Serves first (Accept number (Ok (Some kind)) ∷ history) (holding later.core xs later.last)) (sym opens.links)
     (subst (λ (n : ℕ). Serves first (Accept number (Ok (Some kind)) ∷ history) (holding later.core (held.links ++ opens.link ∷ []) n)) (sym opens.last)
-    (opening-at first history held.core later.core held.links opens.link held.last number kind (greeting m.world number kind (at_once m.sessions)) done
+    (opening-at first history held.core later.core held.links opens.link held.last number kind (greeting m.shared number kind (at_once m.sessions)) done
     (machine-event first (Opened number kind) (events history)) follows serves))
 
 -- what a greeting leaves, as the server has it
-pub opening-is : (core core' : Core) (links links' : List Link) (link : Link) (last number : ℕ) (kind : Kind) (others : ℕ) (none : List ℕ) (closes : Bool) (form : Form)
+pub opening-is : (core mid core' : Core) (links links' : List Link) (link : Link) (last number : ℕ) (kind : Kind) (others : ℕ) (none : List ℕ) (closes : Bool) (form : Form)
     → links' ≡ links ++ link ∷ [] → others ≡ count_by (λ link. is_open link.standing) links → none ≡ []
     → link.number ≡ number → link.standing ≡ standing_after closes → link.lexer ≡ record { form = form; bytes = [] }
-    → ((world : World) → IsWorld core world → IsStep core' none link.queue.items closes form (greeting world number kind others))
+    → ((shared : Shared) → IsShared core shared → IsStep mid none link.queue.items closes form shared (greeting shared number kind others))
+    → ((shared : Shared) (stepped : Stepped) → closes ≡ stepped.closes → IsShared mid (stepped_to shared stepped) → IsShared core' (after_step shared number stepped))
     → Opens (holding core links last) (holding core' links' number) number kind
-opening-is core core' links links' link last number kind others none closes form are count nothing numbered stands awaits done = record {
+opening-is core mid core' links links' link last number kind others none closes form are count nothing numbered stands awaits done settled = record {
   link = link;
   links = are;
   last = refl;
-  greeted = λ world is_world.
-      subst (λ (n : ℕ). IsGreeted core' link number (greeting world number kind n)) (count ∙ sym (at_once-links links))
-      (let step : IsStep core' none link.queue.items closes form (greeting world number kind others) = done world is_world in
+  greeted = λ shared is_shared.
+      subst (λ (n : ℕ). IsGreeted core' link shared number (greeting shared number kind n)) (count ∙ sym (at_once-links links))
+      (let step : IsStep mid none link.queue.items closes form shared (greeting shared number kind others) = done shared is_shared in
       record {
-        world = step.world;
-        session = greeted-session link number closes form (greeting world number kind others) numbered stands awaits step.closing step.form;
-        answer = step.answer ∙ ap (λ (x : List ℕ). x ++ (greeting world number kind others).answer) nothing;
+        stands = settled shared (greeting shared number kind others) step.closing step.stands;
+        session = greeted-session link number closes form (greeting shared number kind others) numbered stands awaits step.closing step.form;
+        answer = step.answer ∙ ap (λ (x : List ℕ). x ++ (greeting shared number kind others).answer) nothing;
       });
 }
 
 -- no link came
 pub keeps_waiting : (first : World) (history : List PortCall) (held : Held) (number : ℕ) → Serves first history held → Serves first (Accept number (Ok None) ∷ history) held
 keeps_waiting first history held number serves = record {
-  world = serves.world;
+  stands = serves.stands;
   sessions = serves.sessions;
   answered = serves.answered;
   ordered = serves.ordered;

@@ -1,11 +1,11 @@
 -- What a command that was read means to the machine.
 use Rattle.mail_model.specs.Commands as model
-use Rattle.mail_rounds.specs.declared.commands.Command.{Command}
-use Rattle.mail_rounds.specs.declared.commands.Command.TheVariants.{Capability, Noop, Logout}
+use Rattle.mail_rounds.specs.declared.commands.SessionCommand.{SessionCommand}
+use Rattle.mail_rounds.specs.declared.commands.SessionCommand.TheVariants.{Capability, Noop, Logout}
 use Rattle.mail_rounds.specs.declared.commands.Parsed.{Parsed}
 use Rattle.mail_rounds.specs.declared.commands.Parsed.TheVariants.{Tagged, BadTagged, BadUntagged}
 
-abbrev pub command_meaning : Command → model.Command
+abbrev pub command_meaning : SessionCommand → model.Command
 command_meaning Capability = model.Capability
 command_meaning Noop = model.Noop
 command_meaning Logout = model.Logout

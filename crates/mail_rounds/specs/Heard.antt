@@ -4,11 +4,11 @@ use Rattle.port_model.specs.declared.calls.PortCall.{PortCall}
 use Rattle.port_model.specs.History.{PortEvent, Opened, Piece, Ended, Lost, events, sent, is_closed}
 use Rattle.imap_lexer.specs.Lexer.{Awaited}
 use Rattle.mail_model.specs.declared.standing.Standing.{Standing}
-use Rattle.mail_model.specs.Step.{World, Stepped}
+use Rattle.mail_model.specs.Step.{Shared, Stepped, after_step}
 use Rattle.mail_model.specs.Machine.{Session, Taking, is_open, standing_after, taking_of, hears_piece, leaves}
 use Rattle.mail_rounds.specs.declared.shared.Core.{Core}
 use Rattle.mail_rounds.specs.declared.link.Link.{Link}
-use Rattle.mail_rounds.specs.Core.{IsWorld}
+use Rattle.mail_rounds.specs.Core.{IsShared}
 use Rattle.mail_rounds.specs.Held.{session_of}
 
 -- The event, if there is one, is of the link of a number, and opens none.
@@ -25,23 +25,23 @@ and_event None older = older
 and_event (Some event) older = event ∷ older
 
 -- what the event does to the session of its link
-abbrev pub acts : Option PortEvent → World → Session → Taking
-acts None world session = taking_of world session
-acts (Some (Opened who kind)) world session = taking_of world session
-acts (Some (Piece who piece moment)) world session = hears_piece moment piece world session
-acts (Some (Ended who)) world session = leaves world session
-acts (Some (Lost who)) world session = leaves world session
+abbrev pub acts : Option PortEvent → Shared → Session → Taking
+acts None shared session = taking_of shared session
+acts (Some (Opened who kind)) shared session = taking_of shared session
+acts (Some (Piece who piece moment)) shared session = hears_piece moment piece shared session
+acts (Some (Ended who)) shared session = leaves shared session
+acts (Some (Lost who)) shared session = leaves shared session
 
 -- A core and a link hold what a session's part in an event leaves.
 pub record IsTaking (core : Core) (link : Link) (taking : Taking) : Type 0 where
-  pub world : IsWorld core taking.world
+  pub stands : IsShared core taking.shared
   pub session : session_of link ≡ taking.session
   pub answers : link.queue.items ≡ taking.answers
 
 -- A link's parts after a step of its session: how it stands, what it awaits, and its queue with the answer added.
-pub record AfterStep (core : Core) (standing : Standing) (lexer : Awaited) (before later : List ℕ) (stepped : Stepped) : Type 0 where
-  pub world : IsWorld core stepped.world
-  pub stands : standing ≡ standing_after stepped.closes
+pub record AfterStep (core : Core) (standing : Standing) (lexer : Awaited) (before later : List ℕ) (shared : Shared) (number : ℕ) (stepped : Stepped) : Type 0 where
+  pub stands : IsShared core (after_step shared number stepped)
+  pub standing_is : standing ≡ standing_after stepped.closes
   pub awaits : lexer ≡ record { form = stepped.next; bytes = [] }
   pub answer : later ≡ before ++ stepped.answer
 
@@ -55,7 +55,7 @@ pub record Hears (core : Core) (link : Link) (core' : Core) (link' : Link) (befo
   pub same : event ≡ None → (core' ≡ core) × (session_of link' ≡ session_of link) × (link'.queue.items ≡ link.queue.items)
   pub idle : event ≢ None → link.queue.items ≡ []
   pub was_open : event ≢ None → is_open link.standing ≡ true
-  pub does : event ≢ None → (world : World) → IsWorld core world → IsTaking core' link' (acts event world (session_of link))
+  pub does : event ≢ None → (shared : Shared) → IsShared core shared → IsTaking core' link' (acts event shared (session_of link))
 
 -- The event, if there is one, is that the link of a number is lost.
 abbrev pub IsLossOf : ℕ → Option PortEvent → Type 0
@@ -76,6 +76,6 @@ pub record Offered (core : Core) (link : Link) (core' : Core) (link' : Link) (be
   pub idle : link.queue.items ≡ [] → (link'.queue.items ≡ []) × (sent later link.number ≡ sent before link.number)
   pub whole : event ≡ None → sent later link.number ++ link'.queue.items ≡ sent before link.number ++ link.queue.items
   pub dropped : event ≢ None → (link'.queue.items ≡ []) × (sent later link.number ≡ sent before link.number)
-  pub no_answer : (world : World) → IsWorld core world
-      → (IsWorld core' (acts event world (session_of link)).world) × (session_of link' ≡ (acts event world (session_of link)).session)
+  pub no_answer : (shared : Shared) → IsShared core shared
+      → (IsShared core' (acts event shared (session_of link)).shared) × (session_of link' ≡ (acts event shared (session_of link)).session)
   pub same : event ≡ None → (core' ≡ core) × (session_of link' ≡ session_of link)

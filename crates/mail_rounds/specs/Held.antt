@@ -1,7 +1,7 @@
 -- What a server holds, over plain values.
 use Rattle.std.specs.Prelude.{ℕ, ◌<◌, ◌≤◌, ◌==◌, List, [], ◌∷◌, if◌then◌else◌}
-use Rattle.mail_model.specs.Machine.{Session, Taking}
-use Rattle.mail_model.specs.Step.{World}
+use Rattle.mail_model.specs.Machine.{Made, Session, Taking}
+use Rattle.mail_model.specs.Step.{Shared}
 use Rattle.mail_rounds.specs.declared.shared.Core.{Core}
 use Rattle.mail_rounds.specs.declared.link.Link.{Link}
 use Rattle.mail_rounds.specs.declared.server.Server.{Server}
@@ -19,9 +19,9 @@ held server = record { core = server.core; links = server.links.items; last = se
 abbrev pub session_of : Link → Session
 session_of link = record { number = link.number; standing = link.standing; form = link.lexer.form; rest = link.lexer.bytes }
 
--- a link's session with the world, and its queue as what it is answered
-abbrev pub taking_in : World → Link → Taking
-taking_in world link = record { world = world; session = session_of link; answers = link.queue.items }
+-- a link's session with what is shared, and its queue as what it is answered, where these changes were made
+abbrev pub taking_in : Shared → Link → List Made → Taking
+taking_in shared link made = record { shared = shared; session = session_of link; answers = link.queue.items; changes = made }
 
 -- the answers of a number that aren't sent yet
 abbrev pub queue_of : ℕ → List Link → List ℕ

@@ -4,11 +4,11 @@ use Rattle.port_model.specs.declared.calls.Kind.{Kind}
 use Rattle.port_model.specs.declared.calls.PortCall.{PortCall}
 use Rattle.port_model.specs.History.{PortEvent, Opened, Piece, Ended, Lost, events, sent, is_closed}
 use Rattle.port_model.specs.Chain.{Chain}
-use Rattle.mail_model.specs.Step.{World, Stepped, greeting}
+use Rattle.mail_model.specs.Step.{World, Shared, Stepped, after_step, greeting}
 use Rattle.mail_model.specs.Machine.{Session, is_open, session_at, after, at_once, standing_after}
 use Rattle.mail_rounds.specs.declared.link.Link.{Link}
 use Rattle.mail_rounds.specs.declared.shared.Core.{Core}
-use Rattle.mail_rounds.specs.Core.{IsWorld}
+use Rattle.mail_rounds.specs.Core.{IsShared}
 use Rattle.mail_rounds.specs.Held.{Held, session_of, queue_of, Ascending}
 use Rattle.mail_rounds.specs.Calls.{Offers, Closes, TakesCalls}
 
@@ -40,10 +40,10 @@ OpenAreKept history [] = Unit {0}
 OpenAreKept history (session ∷ sessions) =
     (is_open session.standing ≡ true → is_closed history session.number ≡ false) × OpenAreKept history sessions
 
--- After a history that began with this world, the server holds what the machine has: a world that its core stands for,
+-- After a history that began with this world, the server holds what the machine has: what its core stands for,
 -- and every session whose link isn't closed, in all its parts.
 pub record Serves (first : World) (history : List PortCall) (held : Held) : Type 0 where
-  pub world : IsWorld held.core (after first history).world
+  pub stands : IsShared held.core (after first history).shared
   pub sessions : map session_of held.links ≡ filter (is_kept history) (after first history).sessions
   pub answered : (number : ℕ) → Answered (is_lost number (events history)) (sent history number) (queue_of number held.links) ((after first history).out number)
   pub ordered : Ascending 0 held.links held.last
@@ -90,8 +90,8 @@ pub record RoundPart (before : Held) (old new : Option (List PortCall)) : Type 0
   pub takes : TakesCalls asked flushed mid new
 
 -- what a greeting leaves of the core and the new link
-pub record IsGreeted (core : Core) (link : Link) (number : ℕ) (greeted : Stepped) : Type 0 where
-  pub world : IsWorld core greeted.world
+pub record IsGreeted (core : Core) (link : Link) (shared : Shared) (number : ℕ) (greeted : Stepped) : Type 0 where
+  pub stands : IsShared core (after_step shared number greeted)
   pub session : session_of link ≡ record { number = number; standing = standing_after greeted.closes; form = greeted.next; rest = [] }
   pub answer : link.queue.items ≡ greeted.answer
 
@@ -100,5 +100,5 @@ pub record Opens (before later : Held) (number : ℕ) (kind : Kind) : Type 0 whe
   pub link : Link
   pub links : later.links ≡ before.links ++ link ∷ []
   pub last : later.last ≡ number
-  pub greeted : (world : World) → IsWorld before.core world
-      → IsGreeted later.core link number (greeting world number kind (at_once (map session_of before.links)))
+  pub greeted : (shared : Shared) → IsShared before.core shared
+      → IsGreeted later.core link shared number (greeting shared number kind (at_once (map session_of before.links)))

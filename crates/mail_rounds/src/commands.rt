@@ -6,7 +6,7 @@ ghost use Rattle.mail_rounds.specs.Commands.{meaning};
 
 /// A command with its arguments.
 #[derive(Clone, Copy, Debug, PartialEq, Eq)]
-pub(crate) enum Command {
+pub(crate) enum SessionCommand {
     Capability,
     Noop,
     Logout,
@@ -16,7 +16,7 @@ pub(crate) enum Command {
 #[derive(Clone, Copy, Debug, PartialEq, Eq)]
 pub(crate) enum Parsed<'a> {
     /// A command with its tag.
-    Tagged(&'a [u8], Command),
+    Tagged(&'a [u8], SessionCommand),
     /// No command, behind a tag.
     BadTagged(&'a [u8]),
     /// No command and no tag.
@@ -50,11 +50,11 @@ fn parse_behind<'a>(tag: &'a [u8], text: &[u8]) -> Parsed<'a>
     ensures { meaning result ≡ parsed_behind tag.now text.now }
 {
     if text.eq_ignore_ascii_case(b"CAPABILITY\r\n") {
-        Parsed::Tagged(tag, Command::Capability)
+        Parsed::Tagged(tag, SessionCommand::Capability)
     } else if text.eq_ignore_ascii_case(b"NOOP\r\n") {
-        Parsed::Tagged(tag, Command::Noop)
+        Parsed::Tagged(tag, SessionCommand::Noop)
     } else if text.eq_ignore_ascii_case(b"LOGOUT\r\n") {
-        Parsed::Tagged(tag, Command::Logout)
+        Parsed::Tagged(tag, SessionCommand::Logout)
     } else {
         Parsed::BadTagged(tag)
     }

@@ -1,19 +1,32 @@
 //! A session ends.
 
 ghost use Rattle.std.specs.Prelude.{◌≡◌};
-ghost use Rattle.mail_model.specs.Step.{World};
-ghost use Rattle.mail_model.specs.Machine.{leaves};
-ghost use Rattle.mail_rounds.specs.Core.{IsWorld};
+ghost use Rattle.mail_model.specs.Step.{Shared, Stepped, after_step, stepped_to};
+ghost use Rattle.mail_model.specs.Machine.{leaves, standing_after};
+ghost use Rattle.mail_rounds.specs.Core.{IsShared};
 ghost use Rattle.mail_rounds.specs.Held.{session_of};
 
 use crate::link::Link;
 use crate::shared::Core;
 use mail_model::Standing;
 
+/// How the link of a session stands after a step of it. A session that the step closes takes leave.
+pub(crate) fn settle(core: &mut Core, number: u32, closes: bool) -> Standing
+    ensures stands { (shared : Shared) (stepped : Stepped) → closes ≡ stepped.closes → IsShared core.old (stepped_to shared stepped) → IsShared core.new (after_step shared number stepped) }
+    ensures standing { result ≡ standing_after closes }
+{
+    if closes {
+        core.leave(number);
+        Standing::Closing
+    } else {
+        Standing::Open
+    }
+}
+
 /// Ends the session of a link whose peer ended it or that is lost, unless it is closing already.
 pub(crate) fn end_session(core: &mut Core, link: &mut Link)
-    ensures world { (world : World) → IsWorld core.old world → IsWorld core.new (leaves world (session_of link.old)).world }
-    ensures session { (world : World) → session_of link.new ≡ (leaves world (session_of link.old)).session }
+    ensures stands { (shared : Shared) → IsShared core.old shared → IsShared core.new (leaves shared (session_of link.old)).shared }
+    ensures session { (shared : Shared) → session_of link.new ≡ (leaves shared (session_of link.old)).session }
     ensures queue { link.new.queue.items ≡ link.old.queue.items }
     ensures number { link.new.number ≡ link.old.number }
 {

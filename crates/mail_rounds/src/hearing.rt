@@ -1,21 +1,20 @@
 //! What comes by one link is taken.
 
-ghost use Rattle.std.specs.Prelude.{ℕ, ◌≡◌, List, OnOk, None, length};
+ghost use Rattle.std.specs.Prelude.{ℕ, ◌≡◌, ◌++◌, List, OnOk, None, length, if◌then◌else◌};
 ghost use Rattle.port_model.specs.Ports.{NeverFall};
 ghost use Rattle.port_model.specs.Streams.{moment};
-ghost use Rattle.imap_lexer.specs.Units.{first};
-ghost use Rattle.mail_model.specs.Step.{World, step};
-ghost use Rattle.mail_model.specs.Bytes.{take_byte, take_bytes};
-ghost use Rattle.mail_rounds.specs.Core.{IsWorld};
-ghost use Rattle.mail_rounds.specs.Held.{taking_in};
+ghost use Rattle.imap_lexer.specs.Units.{first, is_prompted};
+ghost use Rattle.mail_model.specs.Step.{World, step, Shared};
+ghost use Rattle.mail_model.specs.Machine.{Taking, go_ahead, take_byte, take_piece};
+ghost use Rattle.mail_rounds.specs.Core.{IsShared};
 ghost use Rattle.mail_rounds.specs.Calls.{Grows, Asks, read_room};
 ghost use Rattle.mail_rounds.specs.Heard.{Hears, IsTaking, AfterStep};
 
-use crate::ending::end_session;
+use crate::ending::{end_session, settle};
 use crate::link::Link;
 use crate::shared::Core;
-use imap_lexer::{Fed, Lexer};
-use mail_model::{Standing, units_whatever_the_pieces};
+use imap_lexer::{Fed, Lexer, Shown};
+use mail_model::Standing;
 use port_model::{PortRead, Ports};
 use std::alloc::AllocError;
 
@@ -29,22 +28,18 @@ fn finish_unit(
     standing: &mut Standing,
     lexer: &mut Lexer,
     queue: &mut Vec<u8>,
-    fed: Fed,
+    shown: Shown,
     moment: u64,
 ) -> Result<(), AllocError>
-    ensures taken { OnOk result ((world : World) → IsWorld core.old world
-        → AfterStep core.new standing.new lexer.new queue.old.items queue.new.items (step world number lexer.old.form fed lexer.old.bytes moment)) }
+    ensures taken { OnOk result ((shared : Shared) → IsShared core.old shared
+        → AfterStep core.new standing.new lexer.new queue.old.items queue.new.items shared number (step shared number lexer.old.form shown lexer.old.bytes moment)) }
     ensures none { first lexer.new.form lexer.new.bytes ≡ None }
 {
     let plain = lexer.is_plain();
-    match core.execute(number, plain, fed, lexer.unit(), moment, queue) {
+    match core.execute(number, plain, shown, lexer.unit(), moment, queue) {
         Ok(outcome) => {
             lexer.next(outcome.plain);
-            *standing = if outcome.closes {
-                Standing::Closing
-            } else {
-                Standing::Open
-            };
+            *standing = settle(core, number, outcome.closes);
             Ok(())
         }
         Err(fault) => {
@@ -54,24 +49,38 @@ fn finish_unit(
     }
 }
 
+/// Adds a prompt where bytes ask for one.
+fn add_prompt(fed: Fed, queue: &mut Vec<u8>) -> Result<(), AllocError>
+    ensures { OnOk result (queue.new.items ≡ (if is_prompted fed then queue.old.items ++ go_ahead else queue.old.items)) }
+{
+    if fed.is_prompted() {
+        queue.extend_from_slice(b"+ go ahead\r\n")?;
+    }
+    Ok(())
+}
+
 /// Takes one byte of a link's peer, and does what its unit asks where it is the last one.
 fn serve_byte(core: &mut Core, link: &mut Link, byte: u8, moment: u64) -> Result<(), AllocError>
-    ensures taken { OnOk result ((world : World) → IsWorld core.old world → IsTaking core.new link.new (take_byte moment (taking_in world link.old) byte)) }
+    ensures taken { OnOk result ((taking : Taking) → IsTaking core.old link.old taking → IsTaking core.new link.new (take_byte moment taking byte)) }
     ensures number { link.new.number ≡ link.old.number }
 {
     if !link.standing.is_open() {
         return Ok(());
     }
-    match link.lexer.feed(byte)? {
-        Fed::More => Ok(()),
-        fed => {
+    let fed = link.lexer.feed(byte)?;
+    match fed.ending() {
+        None => {
+            add_prompt(fed, &mut link.queue)?;
+            Ok(())
+        }
+        Some(shown) => {
             finish_unit(
                 core,
                 link.number,
                 &mut link.standing,
                 &mut link.lexer,
                 &mut link.queue,
-                fed,
+                shown,
                 moment,
             )?;
             Ok(())
@@ -86,7 +95,7 @@ fn serve_bytes(
     piece: &[u8],
     moment: u64,
 ) -> Result<(), AllocError>
-    ensures taken { OnOk result ((world : World) → IsWorld core.old world → IsTaking core.new link.new (take_bytes moment (taking_in world link.old) piece.now)) }
+    ensures taken { OnOk result ((taking : Taking) → IsTaking core.old link.old taking → IsTaking core.new link.new (take_piece moment taking piece.now)) }
     ensures number { link.new.number ≡ link.old.number }
 {
     'bytes: for byte in piece {
@@ -115,7 +124,6 @@ pub(crate) fn hear<P: Ports>(
     match ports.read(link.number, buffer) {
         PortRead::Bytes(count) => {
             let moment = ports.now().min(LAST_MOMENT);
-            units_whatever_the_pieces();
             serve_bytes(core, link, &buffer[..count], moment)?;
             Ok(())
         }

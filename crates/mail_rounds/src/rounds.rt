@@ -4,15 +4,15 @@ ghost use Rattle.std.specs.Prelude.{ℕ, ◌≡◌, ◌≢◌, ◌<◌, ◌≤�
 ghost use Rattle.fault_counts.specs.Rose.{Rose};
 ghost use Rattle.port_model.specs.Ports.{NeverFall};
 ghost use Rattle.port_model.specs.Chain.{Chain};
-ghost use Rattle.mail_model.specs.Step.{World};
+ghost use Rattle.mail_model.specs.Step.{World, Shared};
 ghost use Rattle.mail_model.specs.Machine.{is_open};
 ghost use Rattle.mail_rounds.specs.declared.rounds.RoundFault.TheVariants.{NoMemory as RoundNoMemory};
-ghost use Rattle.mail_rounds.specs.Core.{IsWorld};
+ghost use Rattle.mail_rounds.specs.Core.{IsShared};
 ghost use Rattle.mail_rounds.specs.Held.{held, Held};
 ghost use Rattle.mail_rounds.specs.Calls.{Offers, Asks, Closes, Accepts, TakesCalls};
 ghost use Rattle.mail_rounds.specs.Serves.{Keeps, Serves, FlushCalls, RoundCalls, RoundPart, Opens};
-ghost use Rattle.mail_rounds.specs.Core.{first_world};
 
+use crate::ending::settle;
 use crate::hearing::hear;
 use crate::link::Link;
 use crate::sending::offer;
@@ -20,7 +20,6 @@ use crate::server::{LoadFault, Server, Unloaded};
 use crate::shared::{Core, SESSION_LIMIT};
 use disk_model::Files;
 use imap_lexer::Lexer;
-use mail_model::Standing;
 use port_model::{Kind, ListenFault, Ports};
 use std::alloc::{AllocError, Global};
 
@@ -78,6 +77,7 @@ fn spare_lexer(spare: &mut Vec<Lexer>, lexer: Lexer) {
 /// The memory of a server: room to read into, the table of links, and lexers for them.
 #[derive(Drop)]
 struct Room {
+    core: Core,
     buffer: Vec<u8>,
     links: Vec<Link>,
     spare: Vec<Lexer>,
@@ -87,8 +87,10 @@ struct Room {
 fn new_room(alloc: Global) -> Result<Room, AllocError>
     ensures buffer { IfOk result (λ room. length room.buffer.items ≡ 65536) }
     ensures links { IfOk result (λ room. room.links.items ≡ []) }
+    ensures core { IfOk result (λ room. (first : World) → IsShared room.core (record { world = first; parts = [] })) }
 {
     Ok(Room {
+        core: Core::new(alloc)?,
         buffer: new_buffer(alloc)?,
         links: Vec::with_capacity(alloc, SESSION_LIMIT)?,
         spare: new_lexers(alloc)?,
@@ -106,28 +108,28 @@ impl<D> Server<D> {
     /// The server of a store, with no link yet. It touches no file. The memory for the lines of 64 sessions is taken here.
     pub fn load(alloc: Global, files: Files<D>) -> Result<Server<D>, Unloaded<D>>
         ensures fresh { IfOk result (λ server. ((held server).links ≡ []) × ((held server).last ≡ 0) × (server.spent ≡ false)) }
-        ensures stands { IfOk result (λ server. IsWorld (held server).core first_world) }
-        ensures serves { IfOk result (λ server. (first : World) → IsWorld (held server).core first → Serves first [] (held server)) }
+
+        // There is no mail in the files yet, so each world is met.
+        ensures serves { IfOk result (λ server. (first : World) → Serves first [] (held server)) }
         ensures files { IfOk result (λ server. server.files ≡ files) }
         ensures back { IfErr result (λ unloaded. unloaded.files ≡ files) }
     {
-        let Ok(
-            Room {
-                buffer,
-                links,
-                spare,
-            },
-        ) = new_room(alloc)
-        else {
+        let Ok(room) = new_room(alloc) else {
             return Err(Unloaded {
                 fault: LoadFault::NoMemory,
                 files,
             });
         };
+        let Room {
+            core,
+            buffer,
+            links,
+            spare,
+        } = room;
         Ok(Server {
             files,
             alloc,
-            core: Core::new(),
+            core,
             links,
             last: 0,
             buffer,
@@ -261,11 +263,7 @@ impl<D> Server<D> {
         let mut lexer = take_lexer(self.alloc, &mut self.spare)?;
         let outcome = self.core.greet(number, kind, others, &mut queue)?;
         lexer.next(outcome.plain);
-        let standing = if outcome.closes {
-            Standing::Closing
-        } else {
-            Standing::Open
-        };
+        let standing = settle(&mut self.core, number, outcome.closes);
         self.links.push(Link {
             number,
             standing,

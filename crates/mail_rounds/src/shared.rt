@@ -1,22 +1,25 @@
 //! What the sessions share, and what a unit does to it.
 
-ghost use Rattle.std.specs.Prelude.{ℕ, ◌≡◌, ◌<◌, OnOk, IfOk};
-ghost use Rattle.mail_model.specs.Step.{World, executed, step, greeting, left_by};
-ghost use Rattle.mail_rounds.specs.Core.{IsWorld, IsExecuted, IsStep};
+ghost use Rattle.std.specs.Prelude.{ℕ, ◌≡◌, ◌<◌, [], OnOk, IfOk};
+ghost use Rattle.mail_model.specs.Step.{World, executed, step, greeting, left_by, Shared};
+ghost use Rattle.mail_rounds.specs.Core.{IsShared, IsExecuted, IsStep};
 ghost use Rattle.mail_model.specs.Commands.{Tagged};
 ghost use Rattle.mail_rounds.specs.Commands.{meaning, command_meaning};
-ghost use Rattle.mail_rounds.specs.Core.{first_world};
 ghost use Rattle.imap_lexer.specs.Lexer.{form_of};
 
 use crate::answers::add_line;
-use crate::commands::{Command, Parsed, parse};
-use imap_lexer::Fed;
+use crate::commands::{Parsed, SessionCommand, parse};
+use imap_lexer::Shown;
+use mail_model::SessionPart;
 use port_model::Kind;
-use std::alloc::AllocError;
+use std::alloc::{AllocError, Global};
 
 /// The store and the sessions' own parts in it. There is no mail yet.
 #[derive(Drop)]
-pub(crate) struct Core {}
+pub(crate) struct Core {
+    /// The own parts of the sessions that are open, in the order of their opening.
+    pub(crate) parts: Vec<SessionPart>,
+}
 
 /// What a unit does to the link of its session.
 #[derive(Clone, Copy, Debug, PartialEq, Eq)]
@@ -31,20 +34,24 @@ pub(crate) struct Outcome {
 pub(crate) const SESSION_LIMIT: usize = 64;
 
 /// Adds the answer to a command, and tells whether its session is over.
-fn answer_command(tag: &[u8], command: Command, answer: &mut Vec<u8>) -> Result<bool, AllocError>
-    ensures { IfOk result (λ closes. (world : World) → IsExecuted answer.old.items answer.new.items closes (executed world (Tagged tag.now (command_meaning command)))) }
+fn answer_command(
+    tag: &[u8],
+    command: SessionCommand,
+    answer: &mut Vec<u8>,
+) -> Result<bool, AllocError>
+    ensures { IfOk result (λ closes. (shared : Shared) → IsExecuted answer.old.items answer.new.items closes (executed shared (Tagged tag.now (command_meaning command)))) }
 {
     match command {
-        Command::Capability => {
+        SessionCommand::Capability => {
             answer.extend_from_slice(b"* CAPABILITY IMAP4rev1\r\n")?;
             add_line(answer, tag, b" OK CAPABILITY completed\r\n")?;
             Ok(false)
         }
-        Command::Noop => {
+        SessionCommand::Noop => {
             add_line(answer, tag, b" OK NOOP completed\r\n")?;
             Ok(false)
         }
-        Command::Logout => {
+        SessionCommand::Logout => {
             answer.extend_from_slice(b"* BYE logging out\r\n")?;
             add_line(answer, tag, b" OK LOGOUT completed\r\n")?;
             Ok(true)
@@ -54,7 +61,7 @@ fn answer_command(tag: &[u8], command: Command, answer: &mut Vec<u8>) -> Result<
 
 /// Adds the answer to a unit as it reads, and tells whether its session is over.
 fn answer_unit(parsed: Parsed<'_>, answer: &mut Vec<u8>) -> Result<bool, AllocError>
-    ensures { IfOk result (λ closes. (world : World) → IsExecuted answer.old.items answer.new.items closes (executed world (meaning parsed.entry))) }
+    ensures { IfOk result (λ closes. (shared : Shared) → IsExecuted answer.old.items answer.new.items closes (executed shared (meaning parsed.entry))) }
 {
     match parsed {
         Parsed::Tagged(tag, command) => Ok(answer_command(tag, command, answer)?),
@@ -71,11 +78,13 @@ fn answer_unit(parsed: Parsed<'_>, answer: &mut Vec<u8>) -> Result<bool, AllocEr
 
 impl Core {
     /// No mail and no session.
-    #[tactic(auto, unfolding(crate::specs::Core::IsWorld))]
-    pub(crate) fn new() -> Core
-        ensures { IsWorld result first_world }
+    #[tactic(auto, unfolding(crate::specs::Core::IsShared))]
+    pub(crate) fn new(alloc: Global) -> Result<Core, AllocError>
+        ensures { IfOk result (λ core. (first : World) → IsShared core (record { world = first; parts = [] })) }
     {
-        Core {}
+        Ok(Core {
+            parts: Vec::with_capacity(alloc, SESSION_LIMIT)?,
+        })
     }
 
     /// Does what a unit of the session of a number asks, at a moment in seconds since 1970, and adds the answer.
@@ -84,20 +93,20 @@ impl Core {
         &mut self,
         number: u32,
         plain: bool,
-        fed: Fed,
+        shown: Shown,
         unit: &[u8],
         moment: u64,
         answer: &mut Vec<u8>,
     ) -> Result<Outcome, AllocError>
-        ensures { IfOk result (λ outcome. (world : World) → IsWorld self.old world
-            → IsStep self.new answer.old.items answer.new.items outcome.closes (form_of outcome.plain) (step world number (form_of plain) fed unit.now moment)) }
+        ensures { IfOk result (λ outcome. (shared : Shared) → IsShared self.old shared
+            → IsStep self.new answer.old.items answer.new.items outcome.closes (form_of outcome.plain) shared (step shared number (form_of plain) shown unit.now moment)) }
     {
-        let closes = match fed {
-            Fed::LineTooLong => {
+        let closes = match shown {
+            Shown::Unit => answer_unit(parse(unit), answer)?,
+            Shown::LineTooLong => {
                 answer.extend_from_slice(b"* BYE line too long\r\n")?;
                 true
             }
-            _ => answer_unit(parse(unit), answer)?,
         };
         Ok(Outcome {
             closes,
@@ -105,8 +114,8 @@ impl Core {
         })
     }
 
-    /// Greets a new session of a kind, where so many sessions are open beside it.
-    #[tactic(auto, unfolding(mail_model::specs::Step::greeting))]
+    /// Greets a new session of a kind, where so many sessions are open beside it, and has its part.
+    #[tactic(auto, unfolding(mail_model::specs::Step::greeting, crate::specs::Core::IsShared))]
     pub(crate) fn greet(
         &mut self,
         number: u32,
@@ -114,9 +123,10 @@ impl Core {
         others: usize,
         answer: &mut Vec<u8>,
     ) -> Result<Outcome, AllocError>
-        ensures { IfOk result (λ outcome. (world : World) → IsWorld self.old world
-            → IsStep self.new answer.old.items answer.new.items outcome.closes (form_of outcome.plain) (greeting world number kind others)) }
+        ensures { IfOk result (λ outcome. (shared : Shared) → IsShared self.old shared
+            → IsStep self.new answer.old.items answer.new.items outcome.closes (form_of outcome.plain) shared (greeting shared number kind others)) }
     {
+        self.parts.push(SessionPart { number })?;
         let closes = match kind {
             Kind::Imap if others < SESSION_LIMIT => {
                 answer.extend_from_slice(b"* OK IMAP4rev1 ready\r\n")?;
@@ -137,10 +147,12 @@ impl Core {
         })
     }
 
-    /// Takes a session whose link ended or was lost out of what the sessions share.
+    /// Takes a session that closes out of what the sessions share.
     pub(crate) fn leave(&mut self, number: u32)
-        ensures { (world : World) → IsWorld self.old world → IsWorld self.new (left_by world number) }
-    {}
+        ensures { (shared : Shared) → IsShared self.old shared → IsShared self.new (left_by shared number) }
+    {
+        self.parts.retain(|part| part.number != number);
+    }
 }
 
 #[cfg(test)]
@@ -190,7 +202,7 @@ mod tests {
             (b"a\r NOOP\r\n", b"* BAD syntax\r\n"),
         ] {
             let mut answer = Vec::new(alloc);
-            let outcome = Core {}.execute(1, false, Fed::Unit, unit, 0, &mut answer)?;
+            let outcome = Core::new(alloc)?.execute(1, false, Shown::Unit, unit, 0, &mut answer)?;
             assert_eq!(rt; answer.as_slice(), want, "to {unit:?}");
             assert_eq!(rt;
                 outcome,
@@ -205,9 +217,10 @@ mod tests {
 
     #[test]
     fn greets_each_kind(rt: HostRuntime) -> Result<(), Fail> {
+        let mut core = Core::new(rt.alloc())?;
         let mut answer = Vec::new(rt.alloc());
-        let imap = Core {}.greet(1, Kind::Imap, 0, &mut answer)?;
-        let lmtp = Core {}.greet(2, Kind::Lmtp, 1, &mut answer)?;
+        let imap = core.greet(1, Kind::Imap, 0, &mut answer)?;
+        let lmtp = core.greet(2, Kind::Lmtp, 1, &mut answer)?;
         assert!(rt; !imap.closes);
         assert!(rt; lmtp.closes);
         assert_eq!(rt;

@@ -16,7 +16,7 @@ use Rattle.mail_model.specs.Machine.{Machine, Session, machine, after, is_open, 
 use Rattle.mail_rounds.specs.declared.link.Link.{Link}
 use Rattle.mail_rounds.specs.Held.{Held, session_of, queue_of, Ascending}
 use Rattle.mail_rounds.specs.Calls.{Offers, Closes, Asks, Accepts, AcceptsBelow}
-use Rattle.mail_rounds.specs.Core.{first_world}
+use Rattle.mail_server.specs.Script.{first_world}
 use Rattle.mail_server.specs.Script.{script_machine}
 use Rattle.mail_rounds.specs.Serves.{Serves, Answered, Serving, Keeps, is_kept, FlushCalls, RoundCalls}
 use Rattle.mail_rounds.specs.Serves.{is_lost}

@@ -19,7 +19,7 @@ use Rattle.mail_model.specs.Machine.{Session, is_open, after}
 use Rattle.mail_rounds.specs.declared.link.Link.{Link}
 use Rattle.mail_rounds.specs.Held.{Held, session_of, queue_of, Ascending}
 use Rattle.mail_rounds.specs.Calls.{Offers, OffersQueue, Closes, ClosesEmpty, Asks, AsksIdle, ReadsOnce, AcceptsBelow, clocked, read_room}
-use Rattle.mail_rounds.specs.Core.{first_world}
+use Rattle.mail_server.specs.Script.{first_world}
 use Rattle.mail_rounds.specs.Serves.{Serves, Answered, is_lost}
 use Rattle.mail_server.specs.Rounds.{plan_of, left_in, is_empty, unsent, linked, for_each, and_send, and_close, and_read, and_accept, offers, closes, flush, take}
 use Rattle.mail_server.proofs.Told.{Told, Plays, PlaysKept}

@@ -1,5 +1,5 @@
 -- The machine on what is left of a script.
-use Rattle.std.proofs.Common.{ℕ, zero, suc, ◌+◌, ◌<◌, ◌≤◌, ◌==◌, ◌||◌, ◌&&◌, nat_lt, nat_le, not, cond, Bool, true, false, List, [], ◌∷◌, ◌++◌, Option, Some, None, filter, length, count_by, All, IsTrue, ◌≡◌, refl, ap, ap₂, sym, ◌∙◌, subst, inl, inr, append-nil, arith}
+use Rattle.std.proofs.Common.{ℕ, ◌+◌, ◌<◌, ◌≤◌, ◌==◌, ◌||◌, ◌&&◌, nat_lt, nat_le, not, cond, Bool, true, false, List, [], ◌∷◌, ◌++◌, Option, Some, None, filter, count_by, All, IsTrue, ◌≡◌, refl, ap, ap₂, sym, ◌∙◌, subst, inl, inr, append-nil, arith}
 use Rattle.std.proofs.Math.Path.{fun_ext}
 use Rattle.std.proofs.lemmas.Option.{same_Some}
 use Rattle.std.proofs.lemmas.List.Sums.{sum_by-cons, sum_by-append}
@@ -13,9 +13,9 @@ use Rattle.port_model.specs.Script.{opens, is_open as is_opened, AreEvents, AreO
 use Rattle.port_model.specs.Streams.{moment}
 use Rattle.port_model.specs.History.{PortEvent}
 use Rattle.imap_lexer.specs.Units.{Cut, first}
-use Rattle.mail_model.specs.Step.{World}
-use Rattle.mail_model.specs.Machine.{Machine, Session, Taking, machine, take_event, takes, becomes, session_at, of_session, is_open, serve, take_piece, take_unit, with_rest, taking_of, hears_piece, leaves}
-use Rattle.mail_rounds.specs.Core.{first_world}
+use Rattle.mail_model.specs.Step.{Shared, World}
+use Rattle.mail_model.specs.Machine.{Machine, Session, Taking, machine, take_event, takes, becomes, session_at, of_session, is_open, awaits_more, take_byte, take_piece, take_unit, taking_of, hears_piece, leaves}
+use Rattle.mail_server.specs.Script.{first_world}
 use Rattle.mail_server.specs.Script.{script_machine, port_event, and_opened, port_events, newest_first}
 use Rattle.mail_rounds.specs.Serves.{is_loss}
 use Rattle.mail_server.specs.Rounds.{is_loss_of, has_loss}
@@ -85,57 +85,64 @@ becomes-same found number before last (session ∷ sessions) h e =
 
 -- A session that serves keeps its number, and one that isn't open takes part in nothing.
 
-serve-number : (turns moment : ℕ) (taking : Taking) (bytes : List ℕ) → (serve turns moment taking bytes).session.number ≡ taking.session.number
-unfolding serve
-serve-number zero moment taking bytes = refl
-serve-number (suc turns) moment taking bytes =
-    elim (is_open taking.session.standing) as (λ (b : Bool). (cond b (elim (first taking.session.form bytes) as (λ (f : Option Cut). Taking) [ None ↦ with_rest taking bytes | Some cut ↦ serve turns moment (take_unit moment taking cut) cut.rest ]) (with_rest taking [])).session.number ≡ taking.session.number) [
-      | true ↦ elim (first taking.session.form bytes) as (λ (f : Option Cut). (elim f as (λ (f : Option Cut). Taking) [ None ↦ with_rest taking bytes | Some cut ↦ serve turns moment (take_unit moment taking cut) cut.rest ]).session.number ≡ taking.session.number) [
+byte-number : (moment : ℕ) (taking : Taking) (byte : ℕ) → (take_byte moment taking byte).session.number ≡ taking.session.number
+unfolding take_byte
+byte-number moment taking byte =
+    let bytes = taking.session.rest ++ byte ∷ [] in
+    elim (is_open taking.session.standing) as (λ (b : Bool). (cond b (elim (first taking.session.form bytes) as (λ (f : Option Cut). Taking) [ None ↦ awaits_more taking bytes | Some cut ↦ take_unit moment taking cut ]) taking).session.number ≡ taking.session.number) [
+      | true ↦ elim (first taking.session.form bytes) as (λ (f : Option Cut). (elim f as (λ (f : Option Cut). Taking) [ None ↦ awaits_more taking bytes | Some cut ↦ take_unit moment taking cut ]).session.number ≡ taking.session.number) [
         | None ↦ refl
-        | Some cut ↦ serve-number turns moment (take_unit moment taking cut) cut.rest
+        | Some cut ↦ refl
       ]
       | false ↦ refl
     ]
 
-piece-number : (moment : ℕ) (piece : List ℕ) (world : World) (session : Session) → (take_piece moment (taking_of world session) piece).session.number ≡ session.number
-unfolding take_piece
-piece-number moment piece world session = serve-number (length (session.rest ++ piece)) moment (with_rest (taking_of world session) []) (session.rest ++ piece)
+piece-number : (moment : ℕ) (piece : List ℕ) (taking : Taking) → (take_piece moment taking piece).session.number ≡ taking.session.number
+piece-number moment [] taking = refl
+piece-number moment (byte ∷ piece) taking = piece-number moment piece (take_byte moment taking byte) ∙ byte-number moment taking byte
+
+byte-shut : (moment : ℕ) (taking : Taking) (byte : ℕ) → is_open taking.session.standing ≡ false → take_byte moment taking byte ≡ taking
+unfolding take_byte
+byte-shut moment taking byte h = rw h refl
+
+piece-shut : (moment : ℕ) (piece : List ℕ) (taking : Taking) → is_open taking.session.standing ≡ false → take_piece moment taking piece ≡ taking
+piece-shut moment [] taking h = refl
+piece-shut moment (byte ∷ piece) taking h = ap (λ (t : Taking). take_piece moment t piece) (byte-shut moment taking byte h) ∙ piece-shut moment piece taking h
 
 -- What a session does with an event of its link.
-pub record OfOpen (act : World → Session → Taking) : Type 0 where
-  pub number : (world : World) (session : Session) → (act world session).session.number ≡ session.number
-  pub shut : (world : World) (session : Session) → is_open session.standing ≡ false → act world session ≡ taking_of world session
+pub record OfOpen (act : Shared → Session → Taking) : Type 0 where
+  pub number : (shared : Shared) (session : Session) → (act shared session).session.number ≡ session.number
+  pub shut : (shared : Shared) (session : Session) → is_open session.standing ≡ false → act shared session ≡ taking_of shared session
 
 hears-own : (moment : ℕ) (piece : List ℕ) → OfOpen (hears_piece moment piece)
 hears-own moment piece = record {
-  number = λ world session. elim (is_open session.standing) as (λ (b : Bool). (cond b (take_piece moment (taking_of world session) piece) (taking_of world session)).session.number ≡ session.number)
-      [ true ↦ piece-number moment piece world session | false ↦ refl ];
-  shut = λ world session h. rw h refl;
+  number = λ shared session. piece-number moment piece (taking_of shared session);
+  shut = λ shared session h. piece-shut moment piece (taking_of shared session) h;
 }
 
-leaves-number : (world : World) (session : Session) (opened : Bool) → is_open session.standing ≡ opened → (leaves world session).session.number ≡ session.number
-leaves-number world session true h = rw h refl
-leaves-number world session false h = rw h refl
+leaves-number : (shared : Shared) (session : Session) (opened : Bool) → is_open session.standing ≡ opened → (leaves shared session).session.number ≡ session.number
+leaves-number shared session true h = rw h refl
+leaves-number shared session false h = rw h refl
 
 leaves-own : OfOpen leaves
-leaves-own = record { number = λ world session. leaves-number world session (is_open session.standing) refl; shut = λ world session h. rw h refl }
+leaves-own = record { number = λ shared session. leaves-number shared session (is_open session.standing) refl; shut = λ shared session h. rw h refl }
 
 -- What an event leaves of the sessions
 
-found-numbered : (m : Machine) (act : World → Session → Taking) → AreNumbered 0 m.sessions m.last → (found : Option Session)
-    → AreNumbered 0 (elim found as (λ (f : Option Session). Machine) [ None ↦ m | Some session ↦ takes m (act m.world session) ]).sessions m.last
+found-numbered : (m : Machine) (act : Shared → Session → Taking) → AreNumbered 0 m.sessions m.last → (found : Option Session)
+    → AreNumbered 0 (elim found as (λ (f : Option Session). Machine) [ None ↦ m | Some session ↦ takes m (act m.shared session) ]).sessions m.last
 found-numbered m act h None = h
-found-numbered m act h (Some session) = numbered-becomes (act m.world session).session 0 m.last m.sessions h
+found-numbered m act h (Some session) = numbered-becomes (act m.shared session).session 0 m.last m.sessions h
 
-found-last : (m : Machine) (act : World → Session → Taking) (found : Option Session)
-    → (elim found as (λ (f : Option Session). Machine) [ None ↦ m | Some session ↦ takes m (act m.world session) ]).last ≡ m.last
+found-last : (m : Machine) (act : Shared → Session → Taking) (found : Option Session)
+    → (elim found as (λ (f : Option Session). Machine) [ None ↦ m | Some session ↦ takes m (act m.shared session) ]).last ≡ m.last
 found-last m act None = refl
 found-last m act (Some session) = refl
 
-of-last : (m : Machine) (number : ℕ) (act : World → Session → Taking) → (of_session m number act).last ≡ m.last
+of-last : (m : Machine) (number : ℕ) (act : Shared → Session → Taking) → (of_session m number act).last ≡ m.last
 of-last m number act = found-last m act (session_at number m.sessions)
 
-of-numbered : (m : Machine) (number : ℕ) (act : World → Session → Taking) → AreNumbered 0 m.sessions m.last → AreNumbered 0 (of_session m number act).sessions (of_session m number act).last
+of-numbered : (m : Machine) (number : ℕ) (act : Shared → Session → Taking) → AreNumbered 0 m.sessions m.last → AreNumbered 0 (of_session m number act).sessions (of_session m number act).last
 of-numbered m number act h =
     subst (AreNumbered 0 (of_session m number act).sessions) (sym (of-last m number act)) (found-numbered m act h (session_at number m.sessions))
 
@@ -220,36 +227,36 @@ adds-none : (same : Bool) (out : List ℕ) → cond same (out ++ []) out ≡ out
 adds-none true out = append-nil out
 adds-none false out = refl
 
-shut-same : (m : Machine) (number : ℕ) (act : World → Session → Taking) → OfOpen act → NoneOpen number m.sessions → AreNumbered 0 m.sessions m.last
+shut-same : (m : Machine) (number : ℕ) (act : Shared → Session → Taking) → OfOpen act → NoneOpen number m.sessions → AreNumbered 0 m.sessions m.last
     → (found : Option Session) → session_at number m.sessions ≡ found
-    → (elim found as (λ (f : Option Session). Machine) [ None ↦ m | Some session ↦ takes m (act m.world session) ]) ≡ m
+    → (elim found as (λ (f : Option Session). Machine) [ None ↦ m | Some session ↦ takes m (act m.shared session) ]) ≡ m
 shut-same m number act own shut h None e = refl
 shut-same m number act own shut h (Some session) e =
-    ap (takes m) (own.shut m.world session (found-shut number m.sessions session shut e))
-    ∙ ap₂ (λ (ss : List Session) (out : ℕ → List ℕ). let all : Machine = record { world = m.world; sessions = ss; out = out; last = m.last } in all)
+    ap (takes m) (own.shut m.shared session (found-shut number m.sessions session shut e))
+    ∙ ap₂ (λ (ss : List Session) (out : ℕ → List ℕ). let all : Machine = record { shared = m.shared; sessions = ss; out = out; changes = m.changes; last = m.last } in all)
     (becomes-same session number 0 m.last m.sessions h e) (fun_ext (λ who. adds-none (who == session.number) (m.out who)))
 
-found-open : (m : Machine) (number who : ℕ) (act : World → Session → Taking) → OfOpen act → (who == number) ≡ false → NoneOpen number m.sessions
+found-open : (m : Machine) (number who : ℕ) (act : Shared → Session → Taking) → OfOpen act → (who == number) ≡ false → NoneOpen number m.sessions
     → (found : Option Session) → session_at who m.sessions ≡ found
-    → NoneOpen number (elim found as (λ (f : Option Session). Machine) [ None ↦ m | Some session ↦ takes m (act m.world session) ]).sessions
+    → NoneOpen number (elim found as (λ (f : Option Session). Machine) [ None ↦ m | Some session ↦ takes m (act m.shared session) ]).sessions
 found-open m number who act own other shut None e = shut
 found-open m number who act own other shut (Some session) e =
-    let same : (act m.world session).session.number ≡ who = own.number m.world session ∙ number-found who m.sessions session e in
-    none_open-becomes number (act m.world session).session m.sessions (subst (λ (n : ℕ). (n == number) ≡ false) (sym same) other) shut
+    let same : (act m.shared session).session.number ≡ who = own.number m.shared session ∙ number-found who m.sessions session e in
+    none_open-becomes number (act m.shared session).session m.sessions (subst (λ (n : ℕ). (n == number) ≡ false) (sym same) other) shut
 
 -- a session whose link ended or is lost is answered nothing
 pub leaves-out : (m : Machine) (number who : ℕ) → (of_session m number leaves).out who ≡ m.out who
 leaves-out m number who = found-out (session_at number m.sessions)
   where
-    silent : (session : Session) (opened : Bool) → is_open session.standing ≡ opened → (leaves m.world session).answers ≡ []
+    silent : (session : Session) (opened : Bool) → is_open session.standing ≡ opened → (leaves m.shared session).answers ≡ []
     silent session true o = rw o refl
     silent session false o = rw o refl
 
-    found-out : (found : Option Session) → (elim found as (λ (f : Option Session). Machine) [ None ↦ m | Some session ↦ takes m (leaves m.world session) ]).out who ≡ m.out who
+    found-out : (found : Option Session) → (elim found as (λ (f : Option Session). Machine) [ None ↦ m | Some session ↦ takes m (leaves m.shared session) ]).out who ≡ m.out who
     found-out None = refl
     found-out (Some session) =
-        ap (λ (bytes : List ℕ). cond (who == (leaves m.world session).session.number) (m.out who ++ bytes) (m.out who)) (silent session (is_open session.standing) refl)
-        ∙ adds-none (who == (leaves m.world session).session.number) (m.out who)
+        ap (λ (bytes : List ℕ). cond (who == (leaves m.shared session).session.number) (m.out who ++ bytes) (m.out who)) (silent session (is_open session.standing) refl)
+        ∙ adds-none (who == (leaves m.shared session).session.number) (m.out who)
 
 other-number : (last number : ℕ) → number ≤ last → (last + 1 == number) ≡ false
 other-number last number h = grind (arith, nat_tests)

@@ -21,7 +21,7 @@ use Rattle.mail_model.specs.declared.standing.Standing.TheVariants.{Open, Closin
 use Rattle.mail_model.specs.Machine.{Machine, Session, machine, after, take_event, is_open}
 use Rattle.mail_rounds.specs.declared.link.Link.{Link}
 use Rattle.mail_rounds.specs.Calls.{Grows, Offers, OffersQueue, Closes, ClosesEmpty, Asks, AsksIdle, ReadsOnce, clocked, AcceptsBelow, read_room}
-use Rattle.mail_rounds.specs.Core.{first_world}
+use Rattle.mail_server.specs.Script.{first_world}
 use Rattle.mail_server.specs.Script.{script_machine, port_event}
 use Rattle.mail_rounds.specs.Serves.{OpenAreKept, is_lost}
 use Rattle.mail_server.specs.Rounds.{plan_of, left_in, has_loss}

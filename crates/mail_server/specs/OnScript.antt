@@ -7,7 +7,7 @@ use Rattle.port_model.specs.History.{events, sent, is_closed}
 use Rattle.port_model.specs.ScriptPorts.{Scripted}
 use Rattle.mail_model.specs.Machine.{Machine, Session, take_event, after}
 use Rattle.mail_rounds.specs.Held.{Held}
-use Rattle.mail_rounds.specs.Core.{first_world}
+use Rattle.mail_server.specs.Script.{first_world}
 use Rattle.mail_server.specs.Script.{script_machine, port_event, and_opened}
 use Rattle.mail_server.specs.Rounds.{plan_of, left_in, played_by, script_history, reached_by, has_loss}
 use Rattle.mail_rounds.specs.Serves.{Serves, is_lost}

@@ -11,7 +11,7 @@ use Rattle.port_model.specs.Playing.{Plan, IsPlayed, playing, answer_to_accept, 
 use Rattle.mail_model.specs.Machine.{Session, is_open, after}
 use Rattle.mail_rounds.specs.Calls.{clocked, read_room}
 use Rattle.mail_rounds.specs.Serves.{is_kept, is_lost}
-use Rattle.mail_rounds.specs.Core.{first_world}
+use Rattle.mail_server.specs.Script.{first_world}
 use Rattle.mail_server.specs.Script.{script_machine}
 
 -- the events, where each send takes all that it is offered

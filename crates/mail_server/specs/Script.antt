@@ -5,7 +5,7 @@ use Rattle.port_model.specs.declared.events.Event.TheVariants.{Opens, Piece, End
 use Rattle.port_model.specs.Streams.{moment}
 use Rattle.port_model.specs.History.{PortEvent, Opened, Piece as CamePiece, Ended, Lost}
 use Rattle.mail_model.specs.Machine.{Machine, machine}
-use Rattle.mail_rounds.specs.Core.{first_world}
+use Rattle.mail_model.specs.Step.{World}
 
 -- an event of a script as its link has it, where this is the number of the next session that opens
 abbrev pub port_event : ℕ → Event → PortEvent
@@ -25,6 +25,10 @@ and_opened count (Loses number) = count
 abbrev pub port_events : ℕ → List Event → List PortEvent
 port_events next [] = []
 port_events next (event ∷ later) = port_event next event ∷ port_events (and_opened next event) later
+
+-- the world of a store without mail
+abbrev pub first_world : World
+first_world = record {}
 
 -- events that come after older ones, all with the newest first
 abbrev pub newest_first : List PortEvent → List PortEvent → List PortEvent

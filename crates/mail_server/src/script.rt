@@ -6,7 +6,7 @@ ghost use Rattle.port_model.specs.Script.{AreEvents};
 ghost use Rattle.mail_rounds.specs.Held.{held};
 ghost use Rattle.mail_server.specs.OnScript.{IsOnScript};
 ghost use Rattle.mail_server.specs.Rounds.{PlaysOut};
-ghost use Rattle.mail_rounds.specs.Core.{first_world};
+ghost use Rattle.mail_server.specs.Script.{first_world};
 ghost use Rattle.mail_server.specs.Script.{script_machine};
 ghost use Rattle.mail_rounds.specs.Serves.{Serves};
 

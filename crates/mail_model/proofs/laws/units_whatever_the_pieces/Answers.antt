@@ -1,8 +1,15 @@
-use Rattle.mail_model.proofs.OneByOne.{piece-bytes, pieces}
+use Rattle.mail_model.proofs.Units.{pieces, moments, none, takes_unit}
 use Rattle.mail_model.proofs.laws.units_whatever_the_pieces.Goals as goal
 
-pub returns-clause-bytes : goal.returns-clause-bytes
-returns-clause-bytes c = piece-bytes c.units_end_where_they_end.ensures.stays c.units_end_where_they_end.ensures.at_last
-
 pub returns-clause-pieces : goal.returns-clause-pieces
-returns-clause-pieces c = pieces c.units_end_where_they_end.ensures.stays c.units_end_where_they_end.ensures.at_last
+returns-clause-pieces c = pieces
+
+pub returns-clause-moments : goal.returns-clause-moments
+returns-clause-moments c = moments c.units_end_where_they_end.ensures.stays
+
+pub returns-clause-none : goal.returns-clause-none
+returns-clause-none c = none c.units_end_where_they_end.ensures.stays
+
+pub returns-clause-unit : goal.returns-clause-unit
+returns-clause-unit c = λ moment taking piece cut h e.
+    takes_unit c.units_end_where_they_end.ensures.stays c.units_end_where_they_end.ensures.at_last moment taking piece cut h.opened h.no_unit e

@@ -7,4 +7,4 @@ use Rattle.mail_rounds.proofs.sending.offer.Goals as goal
 
 pub returns-in-Lost-clause-offered : goal.returns-in-Lost-clause-offered
 returns-in-Lost-clause-offered g c = offered_lost _ _ _ _ _ _ (subst (λ (bytes : List ℕ). Records (Send c.args.link.now.number bytes SendLost) (g.P.Ports.history c.args.ports.now) (g.P.Ports.history c.send.new.self)) c.deref.ensures.value c.in-Lost.ensures.history)
-    c.clear.ensures.items c.end_session.ensures.session c.end_session.ensures.world
+    c.clear.ensures.items c.end_session.ensures.session c.end_session.ensures.stands

@@ -4,7 +4,7 @@ use Rattle.mail_model.specs.Commands as model
 use Rattle.mail_model.specs.Step.{executed, completed, capabilities, bye}
 use Rattle.mail_rounds.specs.Core.{IsExecuted}
 use Rattle.mail_rounds.specs.Commands.{command_meaning}
-use Rattle.mail_rounds.specs.declared.commands.Command.{Command}
+use Rattle.mail_rounds.specs.declared.commands.SessionCommand.{SessionCommand}
 use Rattle.mail_rounds.proofs.shared.answer_command.Goals as goal
 
 completed-line : (tag name : List ℕ) → completed tag name ≡ tag ++ (codes " OK " ++ (name ++ (codes " completed" ++ model.crlf)))
@@ -22,16 +22,16 @@ two-lines before mid later line tag name first second =
     ∙ ap (λ (bytes : List ℕ). before ++ (line ++ bytes)) (sym (completed-line tag name))
 
 pub returns-in_ok-add_line-in-Capability : goal.returns-in_ok-add_line-in-Capability
-returns-in_ok-add_line-in-Capability c = λ world.
-    subst (λ (command : Command). IsExecuted c.args.answer.now.items c.add_line.new.answer.items false (executed world (model.Tagged c.args.tag.now (command_meaning command)))) (sym c.in-Capability.is)
+returns-in_ok-add_line-in-Capability c = λ shared.
+    subst (λ (command : SessionCommand). IsExecuted c.args.answer.now.items c.add_line.new.answer.items false (executed shared (model.Tagged c.args.tag.now (command_meaning command)))) (sym c.in-Capability.is)
     (record {
       answer = two-lines _ _ _ capabilities c.args.tag.now (codes "CAPABILITY") c.in_ok-extend_from_slice-in-Capability.ensures.items c.in_ok-add_line-in-Capability.ensures.added;
       closing = refl;
     })
 
 pub returns-in_ok-add_line-in-Logout : goal.returns-in_ok-add_line-in-Logout
-returns-in_ok-add_line-in-Logout c = λ world.
-    subst (λ (command : Command). IsExecuted c.args.answer.now.items c.add_line-in-Logout.new.answer.items true (executed world (model.Tagged c.args.tag.now (command_meaning command)))) (sym c.in-Logout.is)
+returns-in_ok-add_line-in-Logout c = λ shared.
+    subst (λ (command : SessionCommand). IsExecuted c.args.answer.now.items c.add_line-in-Logout.new.answer.items true (executed shared (model.Tagged c.args.tag.now (command_meaning command)))) (sym c.in-Logout.is)
     (record {
       answer = two-lines _ _ _ (bye (codes "logging out")) c.args.tag.now (codes "LOGOUT") c.in_ok-extend_from_slice-in-Logout.ensures.items c.in_ok-add_line-in-Logout.ensures.added;
       closing = refl;

@@ -4,7 +4,7 @@ use Rattle.mail_model.specs.Commands as model
 use Rattle.mail_rounds.proofs.shared.answer_unit.Goals as goal
 
 pub returns-in_ok-add_line-in-BadTagged : goal.returns-in_ok-add_line-in-BadTagged
-returns-in_ok-add_line-in-BadTagged c = λ world.
+returns-in_ok-add_line-in-BadTagged c = λ shared.
     rw c.in-BadTagged.is
     (record {
       answer = c.in_ok-add_line-in-BadTagged.ensures.added ∙ ap (λ (line : List ℕ). c.args.answer.now.items ++ line) (sym (append_assoc c.in-BadTagged.tag.now (codes " BAD syntax") model.crlf));

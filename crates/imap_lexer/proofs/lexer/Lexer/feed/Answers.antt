@@ -1,17 +1,12 @@
 use Rattle.std.proofs.Common.{arith, ◌≡◌, sym, ap, ◌∙◌, subst, None}
 use Rattle.imap_lexer.specs.Units.{first, shown}
 use Rattle.imap_lexer.specs.Lexer.{Awaited, form_of}
-use Rattle.imap_lexer.proofs.Cuts.{fed-more, fed-shown, first-short}
+use Rattle.imap_lexer.proofs.Cuts.{fed-next, first-short}
 use Rattle.imap_lexer.proofs.lexer.Lexer.feed.Goals as goal
 
-pub returns-clause-more : goal.returns-clause-more
-returns-clause-more c = λ e.
-    fed-more (form_of c.self.inside.plain) _ _ _ c.shows.result (subst (λ (v : Awaited). first v.form v.bytes ≡ None) (sym c.self.view_is) c.requires)
-    c.in_ok-push.ensures.items (c.shows.ensures _ ∙ ap (shown (form_of c.self.inside.plain)) c.deref.ensures.value) (cc)
-
-pub returns-clause-whole : goal.returns-clause-whole
-returns-clause-whole c =
-    fed-shown (form_of c.self.inside.plain) _ _ _ c.shows.result (subst (λ (v : Awaited). first v.form v.bytes ≡ None) (sym c.self.view_is) c.requires)
+pub returns-clause-cut : goal.returns-clause-cut
+returns-clause-cut c =
+    fed-next (form_of c.self.inside.plain) _ _ _ c.shows.result (subst (λ (v : Awaited). first v.form v.bytes ≡ None) (sym c.self.view_is) c.requires)
     c.in_ok-push.ensures.items (c.shows.ensures _ ∙ ap (shown (form_of c.self.inside.plain)) c.deref.ensures.value)
 
 pub returns-in_err-push-clause-taken : goal.returns-in_err-push-clause-taken

@@ -1,0 +1,5 @@
+use Rattle.mail_model.proofs.Units.{open_await}
+use Rattle.mail_model.proofs.laws.open_sessions_await_a_unit.Goals as goal
+
+pub returns : goal.returns
+returns c = open_await

@@ -1,0 +1,12 @@
+use Rattle.std.proofs.Common.{◌==◌, not, ap, ◌∙◌, rules}
+use Rattle.std.specs.List.{filter}
+use Rattle.std.proofs.lemmas.Fn.{filter_same}
+use Rattle.mail_model.specs.declared.session_part.SessionPart.{SessionPart}
+use Rattle.mail_model.specs.Step.{left_by}
+use Rattle.mail_rounds.specs.Core.{IsShared}
+use Rattle.mail_rounds.proofs.shared.Core.leave.Goals as goal
+
+pub returns : goal.returns
+unfolding IsShared left_by
+returns c = λ shared held.
+    filter_same _ _ _ (λ x b f' k. search rules) _ _ c.retain.ensures.filtered ∙ ap (filter (λ (part : SessionPart). not (part.number == c.args.number))) held
