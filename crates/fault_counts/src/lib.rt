@@ -11,15 +11,3 @@ pub fn raised(count: u64) -> u64
 {
     count.saturating_add(1)
 }
-
-#[cfg(test)]
-mod tests {
-    use super::*;
-
-    #[test]
-    fn counts_up_to_the_last(rt: HostRuntime) {
-        assert_eq!(rt; raised(0), 1);
-        assert_eq!(rt; raised(u64::MAX - 1), u64::MAX);
-        assert_eq!(rt; raised(u64::MAX), u64::MAX);
-    }
-}

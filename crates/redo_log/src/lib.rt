@@ -12,6 +12,3 @@ mod stages;
 pub use faults::{CommitFault, FormatFault, LoadFault};
 pub use reading::a_text_says_one_thing;
 pub use redo::Log;
-
-#[cfg(test)]
-mod tests;

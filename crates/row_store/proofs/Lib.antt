@@ -4,4 +4,3 @@ pub mod NewIds
 pub mod AfterCrash
 pub mod Loads
 pub mod InMemory
-pub mod Alone

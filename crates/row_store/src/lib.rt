@@ -18,6 +18,3 @@ pub use faults::{LoadFault, StoreFault};
 pub use in_memory::empty_store;
 pub use loading::Unloaded;
 pub use store::RowStore;
-
-#[cfg(test)]
-mod tests;

@@ -1,7 +1,7 @@
 use Rattle.std.proofs.Common.{◌≡◌, Some, rules}
 use Rattle.row_tables.specs.Fits.{Fits}
-use Rattle.row_store.proofs.Alone.{alone, runs_alone, placed_alone}
-use Rattle.row_store.proofs.tests.keep.Goals as goal
+use Rattle.store_tests.proofs.Alone.{alone, runs_alone, placed_alone}
+use Rattle.store_tests.proofs.row_store_tests.keep.Goals as goal
 
 pub commit-requires-clause-fit : goal.commit-requires-clause-fit
 commit-requires-clause-fit c =

@@ -2,9 +2,9 @@
 
 ghost use Rattle.std.specs.Prelude.{◌≡◌, false, OnOk};
 
-use crate::{BodyRef, LoadFault, RowStore, StoreFault};
 use disk_model::{Files, MemoryDisk};
 use octets::Octets;
+use row_store::{BodyRef, LoadFault, RowStore, StoreFault, Unloaded};
 use row_tables::{FlagName, RowChange};
 use std::alloc::Global;
 use std::process::Abort;
@@ -30,14 +30,76 @@ fn files_with(alloc: Global, log0: &[u8], fails: &[u64]) -> Result<Files<MemoryD
     })
 }
 
+// What is done with a store once it is loaded.
+#[derive(Clone, Copy)]
+enum Step {
+    Nothing,
+    CommitName,
+    KeepBodies,
+}
+
+// What became of a store: why it was not loaded, whether it had the name when it was, what the step answered, and its log.
+#[derive(Drop)]
+struct Outcome {
+    loaded: Result<(), LoadFault>,
+    named: bool,
+    answer: Result<(), StoreFault>,
+    log0: MemoryDisk,
+}
+
+// Loads files whose log has these bytes and fails these calls, and does the step with their store. Loading makes three calls on
+// the log, and one moment.
+fn outcome_of(
+    rt: &impl Abort,
+    alloc: Global,
+    log0: &[u8],
+    fails: &[u64],
+    step: Step,
+) -> Result<Outcome, Fail> {
+    match RowStore::load(alloc, files_with(alloc, log0, fails)?) {
+        Ok(mut store) => {
+            let named = store.tables().flag_name_id(b"x").is_some();
+            let answer = act(rt, alloc, &mut store, step);
+            let files = store.into_files();
+            Ok(Outcome {
+                loaded: Ok(()),
+                named,
+                answer: answer?,
+                log0: files.log0,
+            })
+        }
+        Err(Unloaded { fault, files }) => Ok(Outcome {
+            loaded: Err(fault),
+            named: false,
+            answer: Ok(()),
+            log0: files.log0,
+        }),
+    }
+}
+
+// Does the step.
+fn act(
+    rt: &impl Abort,
+    alloc: Global,
+    store: &mut RowStore<MemoryDisk>,
+    step: Step,
+) -> Result<Result<(), StoreFault>, Fail>
+    requires { store.old.spent ≡ false }
+{
+    match step {
+        Step::Nothing => Ok(Ok(())),
+        Step::CommitName => commit_name(alloc, store),
+        Step::KeepBodies => Ok(Ok(keep_bodies(rt, alloc, store)?)),
+    }
+}
+
 // Whether files with this log have the name, if they are a store.
-fn has_name(alloc: Global, log0: &[u8]) -> Result<Option<bool>, Fail> {
-    match RowStore::load(alloc, files_with(alloc, log0, &[])?) {
-        Ok(store) => Ok(Some(store.tables().flag_name_id(b"x").is_some())),
-        Err(unloaded) => match unloaded.fault {
-            LoadFault::NotAStore => Ok(None),
-            fault => Err(Fail::from(fault)),
-        },
+fn has_name(rt: &impl Abort, alloc: Global, log0: &[u8]) -> Result<Option<bool>, Fail> {
+    let outcome = outcome_of(rt, alloc, log0, &[], Step::Nothing)?;
+    match outcome.loaded {
+        Ok(()) => Ok(Some(outcome.named)),
+        Err(LoadFault::NotAStore) => Ok(None),
+        Err(fault) => Err(Fail::from(fault)),
     }
 }
 
@@ -54,7 +116,7 @@ fn begins_with_no_rows(rt: HostRuntime) -> Result<(), Fail> {
     let bytes = image(&files.log0, 2, b"")?;
     assert_eq!(rt; answer, Ok(()));
     assert_eq!(rt; bytes.as_slice(), FORMATTED.as_slice());
-    assert_eq!(rt; has_name(alloc, &FORMATTED)?, Some(false));
+    assert_eq!(rt; has_name(&rt, alloc, &FORMATTED)?, Some(false));
     Ok(())
 }
 
@@ -75,35 +137,28 @@ fn commit_name(
     Ok(store.commit(changes))
 }
 
-// Commits the name in an empty store whose log fails these calls. Loading makes three calls on the log, and one moment.
-fn commits(alloc: Global, fails: &[u64]) -> Result<(MemoryDisk, Result<(), StoreFault>), Fail> {
-    match RowStore::load(alloc, files_with(alloc, &FORMATTED, fails)?) {
-        Ok(mut store) => {
-            let answer = commit_name(alloc, &mut store);
-            let files = store.into_files();
-            Ok((files.log0, answer?))
-        }
-        Err(unloaded) => Err(Fail::from(unloaded.fault)),
-    }
-}
-
 #[test]
 fn commits_the_record_of_the_format(rt: HostRuntime) -> Result<(), Fail> {
     let alloc = rt.alloc();
-    let (log0, answer) = commits(alloc, &[])?;
-    assert_eq!(rt; answer, Ok(()));
-    assert_eq!(rt; image(&log0, 5, b"")?.as_slice(), NAMED.as_slice());
-    assert_eq!(rt; has_name(alloc, &NAMED)?, Some(true));
+    let done = outcome_of(&rt, alloc, &FORMATTED, &[], Step::CommitName)?;
+    assert_eq!(rt; done.answer, Ok(()));
+    assert_eq!(rt; image(&done.log0, 5, b"")?.as_slice(), NAMED.as_slice());
+    assert_eq!(rt; has_name(&rt, alloc, &NAMED)?, Some(true));
     Ok(())
 }
 
 // Whether an image of a moment has the name: the free bytes are all 0, all 1, or those of the record behind the gate.
-fn may_have_name(alloc: Global, disk: &MemoryDisk, moments: u64) -> Result<bool, Fail> {
+fn may_have_name(
+    rt: &impl Abort,
+    alloc: Global,
+    disk: &MemoryDisk,
+    moments: u64,
+) -> Result<bool, Fail> {
     let choices: [&[u8]; 3] = [b"", &[1; 64], &NAMED[18..]];
     let mut with = false;
     for moment in 0..moments {
         for choice in choices {
-            let has = has_name(alloc, &image(disk, moment, choice)?)?;
+            let has = has_name(rt, alloc, &image(disk, moment, choice)?)?;
             with = has.ok_or("an image is no store")? || with;
         }
     }
@@ -125,30 +180,23 @@ fn is_given_up_where_a_disk_fails(rt: HostRuntime) -> Result<(), Fail> {
         (&[7, 8], 5, true),
     ];
     for (fails, moments, opened) in cases {
-        let (disk, answer) = commits(alloc, fails)?;
-        let with = may_have_name(alloc, &disk, moments)?;
-        assert_eq!(rt; answer, Err(StoreFault::Failed));
+        let done = outcome_of(&rt, alloc, &FORMATTED, fails, Step::CommitName)?;
+        let with = may_have_name(&rt, alloc, &done.log0, moments)?;
+        assert_eq!(rt; done.answer, Err(StoreFault::Failed));
         assert_eq!(rt; with, opened, "calls {fails:?}");
     }
     Ok(())
 }
 
-// What a load of files with this log that fails these calls answers, and the log that it hands back.
-fn refused(alloc: Global, log0: &[u8], fails: &[u64]) -> Result<(LoadFault, MemoryDisk), Fail> {
-    match RowStore::load(alloc, files_with(alloc, log0, fails)?) {
-        Ok(_) => Err(Fail::from("loaded")),
-        Err(unloaded) => Ok((unloaded.fault, unloaded.files.log0)),
-    }
-}
-
 #[test]
 fn hands_back_files_that_are_no_store(rt: HostRuntime) -> Result<(), Fail> {
     let alloc = rt.alloc();
-    let (fault, log0) = refused(alloc, b"abc", &[])?;
-    assert_eq!(rt; fault, LoadFault::NotAStore);
-    assert_eq!(rt; image(&log0, 1, b"")?.as_slice(), b"abc".as_slice());
+    let refused = outcome_of(&rt, alloc, b"abc", &[], Step::Nothing)?;
+    assert_eq!(rt; refused.loaded, Err(LoadFault::NotAStore));
+    assert_eq!(rt; image(&refused.log0, 1, b"")?.as_slice(), b"abc".as_slice());
     for call in 1..4 {
-        assert_eq!(rt; refused(alloc, &NAMED, &[call])?.0, LoadFault::Failed);
+        let refused = outcome_of(&rt, alloc, &NAMED, &[call], Step::Nothing)?;
+        assert_eq!(rt; refused.loaded, Err(LoadFault::Failed));
     }
     Ok(())
 }
@@ -179,10 +227,10 @@ fn tells_stores_from_other_files(rt: HostRuntime) -> Result<(), Fail> {
     ];
     for (at, byte, end, want) in cases {
         let log = edited(alloc, at, byte, end)?;
-        assert_eq!(rt; has_name(alloc, &log)?, want, "{byte} at {at}");
+        assert_eq!(rt; has_name(&rt, alloc, &log)?, want, "{byte} at {at}");
     }
-    assert_eq!(rt; has_name(alloc, b"")?, None);
-    assert_eq!(rt; has_name(alloc, &NAMED[..30])?, None);
+    assert_eq!(rt; has_name(&rt, alloc, b"")?, None);
+    assert_eq!(rt; has_name(&rt, alloc, &NAMED[..30])?, None);
     Ok(())
 }
 
@@ -223,9 +271,7 @@ fn keep_bodies(rt: &impl Abort, alloc: Global, store: &mut RowStore<MemoryDisk>)
 
 #[test]
 fn equal_bodies_share_a_row(rt: HostRuntime) -> Result<(), Fail> {
-    let alloc = rt.alloc();
-    match RowStore::load(alloc, files_with(alloc, &FORMATTED, &[])?) {
-        Ok(mut store) => keep_bodies(&rt, alloc, &mut store),
-        Err(unloaded) => Err(Fail::from(unloaded.fault)),
-    }
+    let done = outcome_of(&rt, rt.alloc(), &FORMATTED, &[], Step::KeepBodies)?;
+    assert_eq!(rt; done.loaded, Ok(()));
+    Ok(())
 }

@@ -1,8 +1,8 @@
 //! What a log's text is, byte by byte, and what a crash in a commit leaves.
 
-use crate::{CommitFault, LoadFault, Log};
 use disk_model::{Disk, MemoryDisk};
 use octets::Octets;
+use redo_log::{CommitFault, LoadFault, Log};
 use std::alloc::Global;
 use std::process::Abort;
 use std::test::Fail;

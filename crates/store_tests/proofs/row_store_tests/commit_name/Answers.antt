@@ -2,8 +2,8 @@ use Rattle.std.proofs.Common.{rules}
 use Rattle.row_tables.specs.Fits.{Fits}
 use Rattle.row_tables.specs.declared.change.RowChange.{RowChange}
 use Rattle.row_tables.specs.declared.change.RowChange.TheVariants.{InsertFlagName}
-use Rattle.row_store.proofs.Alone.{alone, runs_alone}
-use Rattle.row_store.proofs.tests.commit_name.Goals as goal
+use Rattle.store_tests.proofs.Alone.{alone, runs_alone}
+use Rattle.store_tests.proofs.row_store_tests.commit_name.Goals as goal
 
 pub commit-requires-clause-fit : goal.commit-requires-clause-fit
 commit-requires-clause-fit c =
