@@ -2,40 +2,19 @@
 //! commit of its own.
 #![tactic(auto)]
 
-ghost use Rattle.std.specs.Prelude.{◌≡◌, false, [], IfOk, OnOk};
+ghost use Rattle.std.specs.Prelude.{◌≡◌, false, [], OnOk};
 
-use disk_model::{Files, MemoryDisk};
+use disk_model::MemoryDisk;
 use mime_reader::read_or_wrap;
-use row_store::{RowStore, StoreFault};
+use row_store::{RowStore, StoreFault, empty_store};
 use shredder::{law_mails_fit, rows_of};
-use std::alloc::{AllocError, AllocGlobal, Global};
+use std::alloc::{AllocGlobal, Global};
 use std::env::{self, Env};
 use std::io::Print;
 use std::process::ExitCode;
 
 /// How many bytes a message may have.
 const MOST_BYTES: usize = 33_554_432;
-
-/// An empty disk that never fails.
-fn empty_disk(alloc: Global) -> Result<MemoryDisk, AllocError> {
-    MemoryDisk::new(alloc, Vec::new(alloc), Vec::new(alloc))
-}
-
-/// An empty store over disks in memory.
-fn empty_store(alloc: Global) -> Result<RowStore<MemoryDisk>, StoreFault>
-    ensures { IfOk result (λ store. (store.spent ≡ false) × (store.placed ≡ [])) }
-{
-    let mut files = Files {
-        log0: empty_disk(alloc)?,
-        log1: empty_disk(alloc)?,
-        bodies: empty_disk(alloc)?,
-    };
-    RowStore::format(alloc, &mut files)?;
-    match RowStore::load(alloc, files) {
-        Ok(store) => Ok(store),
-        Err(_unloaded) => Err(StoreFault::Failed),
-    }
-}
 
 /// Puts a message of its own number into the store.
 fn put(alloc: Global, store: &mut RowStore<MemoryDisk>, number: u64) -> Result<(), StoreFault>
