@@ -6,3 +6,4 @@ pub mod Running
 pub mod Standing
 pub mod Ascending
 pub mod NameEntries
+pub mod Turns

@@ -4,3 +4,4 @@ pub mod Indexes
 pub mod Names
 pub mod References
 pub mod Fits
+pub mod InTurn

@@ -1,10 +1,12 @@
 // Laws of changes, for the proofs of callers.
-ghost use Rattle.std.specs.Prelude.{◌≡◌, ℕ, List, None};
+ghost use Rattle.std.specs.Prelude.{◌≡◌, ◌++◌, ℕ, List, None};
+ghost use Rattle.std.specs.List.{AllByRecursion};
 ghost use Rattle.ordered_rows.specs.RowKey.{number_key};
 ghost use Rattle.ordered_rows.specs.Listed.{row_at};
 ghost use Rattle.row_tables.specs.Keys.{message_key};
-ghost use Rattle.row_tables.specs.Fits.{Fits, Runs, applied};
-ghost use Rattle.row_tables.specs.References.{AreClosed, AreOrdered, IsUnknown};
+ghost use Rattle.row_tables.specs.Fits.{CanRun, Fits, Runs, applied};
+ghost use Rattle.row_tables.specs.InTurn.{AreNewFlags, flag_insertions};
+ghost use Rattle.row_tables.specs.References.{AreClosed, AreOrdered, HasFlagName, HasMailbox, HasMailboxMessage, IsUnknown};
 ghost use Rattle.row_tables.specs.TableRows.{TableRows};
 ghost use Rattle.row_tables.specs.declared.change.RowChange.{RowChange};
 
@@ -59,3 +61,18 @@ pub fn changes_have_one_end()
     ensures { (t : TableRows) (changes : List RowChange) (after other : TableRows) → Runs t changes after → Runs t changes other
         → after ≡ other }
 {}
+
+/// Changes that run after others run with them as one list.
+pub fn changes_in_turn()
+    ensures { (t middle after : TableRows) (first rest : List RowChange) → Runs t first middle → Runs middle rest after
+        → Runs t (first ++ rest) after }
+{}
+
+/// Flags for a message that a mailbox has can be inserted one after another, over any tables, where their names are there, the
+/// message has none of them, and none comes twice.
+pub fn flags_can_run()
+    ensures { (t : TableRows) (mailbox uid : ℕ) (flags : List ℕ) → HasMailbox t mailbox → HasMailboxMessage t mailbox uid
+        → AllByRecursion (HasFlagName t) flags → AreNewFlags t mailbox uid flags → CanRun t (flag_insertions mailbox uid flags) }
+{
+    insertion::<FlagRow>();
+}
