@@ -1,15 +1,18 @@
 -- Lists of changes that run, by what is known before the first of them.
-use Rattle.std.proofs.Common.{◌≡◌, ℕ, ◌&&◌, ◌==◌, false, List, [], ◌∷◌, ◌++◌, refl, sym, ap, ◌∙◌, subst}
+use Rattle.std.proofs.Common.{◌≡◌, ℕ, ◌&&◌, ◌==◌, false, List, [], ◌∷◌, ◌++◌, IsSome, refl, sym, ap, ◌∙◌, subst}
 use Rattle.std.specs.List.{AllByRecursion}
+use Rattle.ordered_rows.specs.RowKey.{RowKey, same_key}
 use Rattle.ordered_rows.specs.InsertLaws.{InsertLaws}
-use Rattle.row_tables.specs.Keys.{uid_flag_key, flag_key}
+use Rattle.ordered_rows.specs.Listed.{row_at, without}
+use Rattle.row_tables.specs.Keys.{uid_flag_key, deleted_message_key, flag_key}
 use Rattle.row_tables.specs.TableRows.{TableRows}
 use Rattle.row_tables.specs.References.{HasMailbox, HasMailboxMessage, HasFlagName}
-use Rattle.row_tables.specs.Fits.{CanRun, Runs, applied}
-use Rattle.row_tables.specs.InTurn.{AreNewFlags, flag_insertions}
+use Rattle.row_tables.specs.Fits.{CanRun, Fits, Runs, applied}
+use Rattle.row_tables.specs.InTurn.{AreFlags, AreNewFlags, AreNewGone, flag_insertions, flag_removals, gone_insertions}
+use Rattle.row_tables.specs.declared.marks.DeletedMessage.{DeletedMessage}
 use Rattle.row_tables.specs.declared.marks.FlagRow.{FlagRow}
 use Rattle.row_tables.specs.declared.change.RowChange.{RowChange}
-use Rattle.row_tables.specs.declared.change.RowChange.TheVariants.{InsertFlagRow}
+use Rattle.row_tables.specs.declared.change.RowChange.TheVariants.{InsertDeletedMessage, InsertFlagRow, RemoveFlagRow}
 
 pub in_turn : (t middle after : TableRows) (first rest : List RowChange) → Runs t first middle → Runs middle rest after → Runs t (first ++ rest) after
 in_turn t middle after [] rest h k = subst (λ u. Runs u rest after) (sym h) k
@@ -29,3 +32,31 @@ module _ (laws : InsertLaws flag_key) (mailbox uid : ℕ) where
   flags_can t (flag ∷ flags) box entry named new =
       let rest = flags_can (applied t (InsertFlagRow (flag_row flag))) flags box entry named.1 (still_new t flag flags new.1 new.2) in
       (rest.0, ((new.0, (box, entry, named.0)), rest.1))
+
+pub alone : (t : TableRows) (change : RowChange) → Fits t change → Runs t (change ∷ []) (applied t change)
+alone t change fits = (fits, refl)
+
+module _ (removed : (k other : RowKey) (rows : List FlagRow) → same_key k other ≡ false → row_at flag_key other (without flag_key k rows) ≡ row_at flag_key other rows) (mailbox uid : ℕ) where
+  still_flags : (t : TableRows) (flag : ℕ) (flags : List ℕ) → AllByRecursion (λ other. (flag == other) ≡ false) flags → AreFlags t mailbox uid flags → AreFlags (applied t (RemoveFlagRow (mailbox, uid, flag))) mailbox uid flags
+  still_flags t flag [] differ there = tt
+  still_flags t flag (other ∷ flags) differ there =
+      (subst IsSome (sym (removed (uid_flag_key mailbox uid flag) (uid_flag_key mailbox uid other) t.marks.flags (ap (λ b. b && (uid == uid) && (mailbox == mailbox)) differ.0))) there.0, there.1, still_flags t flag flags differ.1 there.2)
+
+  pub removals_can : (t : TableRows) (flags : List ℕ) → AreFlags t mailbox uid flags → CanRun t (flag_removals mailbox uid flags)
+  removals_can t [] there = (t, refl)
+  removals_can t (flag ∷ flags) there =
+      let rest = removals_can (applied t (RemoveFlagRow (mailbox, uid, flag))) flags (still_flags t flag flags there.1 there.2) in
+      (rest.0, (there.0, rest.1))
+
+module _ (laws : InsertLaws deleted_message_key) where
+  still_new_gone : (t : TableRows) (r : DeletedMessage) (rows : List DeletedMessage) → AllByRecursion (λ other. same_key (deleted_message_key r) (deleted_message_key other) ≡ false) rows → AreNewGone t rows
+      → AreNewGone (applied t (InsertDeletedMessage r)) rows
+  still_new_gone t r [] differ new = tt
+  still_new_gone t r (other ∷ rows) differ new =
+      (laws.other r (deleted_message_key other) t.marks.deleted_messages differ.0 ∙ new.0, new.1, new.2, still_new_gone t r rows differ.1 new.3)
+
+  pub gone_can : (t : TableRows) (rows : List DeletedMessage) → AreNewGone t rows → CanRun t (gone_insertions rows)
+  gone_can t [] new = (t, refl)
+  gone_can t (r ∷ rows) new =
+      let rest = gone_can (applied t (InsertDeletedMessage r)) rows (still_new_gone t r rows new.2 new.3) in
+      (rest.0, ((new.0, new.1), rest.1))

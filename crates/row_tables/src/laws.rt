@@ -1,11 +1,12 @@
 // Laws of changes, for the proofs of callers.
-ghost use Rattle.std.specs.Prelude.{◌≡◌, ◌++◌, ℕ, List, None};
+ghost use Rattle.std.specs.Prelude.{◌≡◌, ◌++◌, ◌∷◌, [], ℕ, List, None};
 ghost use Rattle.std.specs.List.{AllByRecursion};
 ghost use Rattle.ordered_rows.specs.RowKey.{number_key};
 ghost use Rattle.ordered_rows.specs.Listed.{row_at};
 ghost use Rattle.row_tables.specs.Keys.{message_key};
 ghost use Rattle.row_tables.specs.Fits.{CanRun, Fits, Runs, applied};
-ghost use Rattle.row_tables.specs.InTurn.{AreNewFlags, flag_insertions};
+ghost use Rattle.row_tables.specs.InTurn.{AreFlags, AreNewFlags, AreNewGone, flag_insertions, flag_removals, gone_insertions};
+ghost use Rattle.row_tables.specs.declared.marks.DeletedMessage.{DeletedMessage};
 ghost use Rattle.row_tables.specs.References.{AreClosed, AreOrdered, HasFlagName, HasMailbox, HasMailboxMessage, IsUnknown};
 ghost use Rattle.row_tables.specs.TableRows.{TableRows};
 ghost use Rattle.row_tables.specs.declared.change.RowChange.{RowChange};
@@ -75,4 +76,25 @@ pub fn flags_can_run()
         → AllByRecursion (HasFlagName t) flags → AreNewFlags t mailbox uid flags → CanRun t (flag_insertions mailbox uid flags) }
 {
     insertion::<FlagRow>();
+}
+
+/// A change that fits runs alone.
+pub fn change_runs_alone()
+    ensures { (t : TableRows) (change : RowChange) → Fits t change → Runs t (change ∷ []) (applied t change) }
+{}
+
+/// Flags that a message of a mailbox has can be taken out one after another, over any tables, where none comes twice.
+pub fn flag_removals_can_run()
+    ensures { (t : TableRows) (mailbox uid : ℕ) (flags : List ℕ) → AreFlags t mailbox uid flags
+        → CanRun t (flag_removals mailbox uid flags) }
+{
+    row_after_remove::<FlagRow>();
+}
+
+/// UIDs that are gone can be inserted one after another, over any tables, where their mailboxes are there, the rows aren't, and no
+/// two are the same.
+pub fn gone_can_run()
+    ensures { (t : TableRows) (rows : List DeletedMessage) → AreNewGone t rows → CanRun t (gone_insertions rows) }
+{
+    insertion::<DeletedMessage>();
 }
