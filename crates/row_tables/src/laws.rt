@@ -5,7 +5,8 @@ ghost use Rattle.ordered_rows.specs.RowKey.{number_key};
 ghost use Rattle.ordered_rows.specs.Listed.{row_at};
 ghost use Rattle.row_tables.specs.Keys.{message_key};
 ghost use Rattle.row_tables.specs.Fits.{CanRun, Fits, Runs, applied};
-ghost use Rattle.row_tables.specs.InTurn.{AreFlags, AreNewFlags, AreNewGone, flag_insertions, flag_removals, gone_insertions};
+ghost use Rattle.row_tables.specs.InTurn.{AreFlags, AreNewEntries, AreNewFlags, AreNewGone, ArePlainEntries, entry_insertions, entry_removals, flag_insertions, flag_removals, gone_insertions};
+ghost use Rattle.row_tables.specs.declared.marks.MailboxMessage.{MailboxMessage};
 ghost use Rattle.row_tables.specs.declared.marks.DeletedMessage.{DeletedMessage};
 ghost use Rattle.row_tables.specs.References.{AreClosed, AreOrdered, HasFlagName, HasMailbox, HasMailboxMessage, IsUnknown};
 ghost use Rattle.row_tables.specs.TableRows.{TableRows};
@@ -97,4 +98,21 @@ pub fn gone_can_run()
     ensures { (t : TableRows) (rows : List DeletedMessage) → AreNewGone t rows → CanRun t (gone_insertions rows) }
 {
     insertion::<DeletedMessage>();
+}
+
+/// Messages can be put into mailboxes one after another, over any tables, where what their rows refer to is there, the rows aren't,
+/// and no two are the same.
+pub fn entries_can_run()
+    ensures { (t : TableRows) (rows : List MailboxMessage) → AreNewEntries t rows → CanRun t (entry_insertions rows) }
+{
+    insertion::<MailboxMessage>();
+}
+
+/// Messages that a mailbox has, and that have no flags, can be taken from it one after another, over any tables, where none comes
+/// twice.
+pub fn entry_removals_can_run()
+    ensures { (t : TableRows) (mailbox : ℕ) (uids : List ℕ) → ArePlainEntries t mailbox uids
+        → CanRun t (entry_removals mailbox uids) }
+{
+    row_after_remove::<MailboxMessage>();
 }
