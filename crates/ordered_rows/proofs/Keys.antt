@@ -105,7 +105,7 @@ module _ {X : Type 0} (key : X → RowKey) (k : RowKey) where
       by false q = refl
       by true q = absurd (true≢false (sym (ap is_lt (sym (alike_right key_total (key other) k (key row) (same_Equal (key other) k q)) ∙ less)) ∙ e))
 
-  each_later : (row : X) (rows : List X) → AllByRecursion (λ y. row_cmp key row y ≡ Less) rows → is_below key k row ≡ false → AllAre (is_below key k) false rows
+  pub each_later : (row : X) (rows : List X) → AllByRecursion (λ y. row_cmp key row y ≡ Less) rows → is_below key k row ≡ false → AllAre (is_below key k) false rows
   each_later row [] h e = tt
   each_later row (other ∷ rows) h e = (not_below_later row other h.0 e, each_later row rows h.1 e)
 

@@ -9,3 +9,4 @@ pub mod FreeNumbers
 pub mod Numbers
 pub mod Prefixes
 pub mod Firsts
+pub mod Changes

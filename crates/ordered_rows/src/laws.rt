@@ -1,5 +1,5 @@
 // Laws of tables as lists, for the proofs of callers.
-ghost use Rattle.std.specs.Prelude.{◌≡◌, ◌++◌, ◌∷◌, [], List, Some, None, IsSome, Bool, true, false, nat_lt, ℕ, map};
+ghost use Rattle.std.specs.Prelude.{◌≡◌, ◌+◌, ◌++◌, ◌∷◌, [], if◌then◌else◌, length, List, Some, None, IsSome, Bool, true, false, nat_lt, ℕ, map};
 ghost use Rattle.std.specs.Ordering.{is_lt};
 ghost use Rattle.std.specs.List.{AllByRecursion, filter, find};
 ghost use Rattle.ordered_rows.specs.RowKey.{RowKey, key_cmp, number_key, same_key};
@@ -90,4 +90,18 @@ pub fn numbers_after_insert<R: Keyed>()
         → map f (filter g (with_row R.key_of row rows)) ≡ placed (f row) (map f (filter g rows)) }
     ensures other { (f : R → ℕ) (g : R → Bool) (row : R) (rows : List R) → g row ≡ false → IsInOrder R.key_of rows
         → map f (filter g (with_row R.key_of row rows)) ≡ map f (filter g rows) }
+{}
+
+/// A replacement is the removal of the row that has the key, and the insertion of the other.
+pub fn replacement<R: Keyed>()
+    ensures { (row : R) (rows : List R) → IsInOrder R.key_of rows → IsSome (row_at R.key_of (R.key_of row) rows)
+        → with_replaced R.key_of row rows ≡ with_row R.key_of row (without R.key_of (R.key_of row) rows) }
+{}
+
+/// How many rows pass a test, after an insertion and after a removal.
+pub fn counts<R: Keyed>()
+    ensures inserted { (g : R → Bool) (row : R) (rows : List R) → IsInOrder R.key_of rows
+        → length (filter g (with_row R.key_of row rows)) ≡ length (filter g rows) + (if g row then 1 else 0) }
+    ensures removed { (g : R → Bool) (k : RowKey) (row : R) (rows : List R) → IsInOrder R.key_of rows → row_at R.key_of k rows ≡ Some row
+        → length (filter g (without R.key_of k rows)) + (if g row then 1 else 0) ≡ length (filter g rows) }
 {}
