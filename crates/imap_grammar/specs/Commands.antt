@@ -19,10 +19,12 @@ use Rattle.imap_grammar.specs.Verbs.{verbs, uid_verbs}
 use Rattle.imap_grammar.specs.Session.{alone, login, authenticate}
 use Rattle.imap_grammar.specs.Mailboxes.{named_mailbox, rename, listing, status}
 use Rattle.imap_grammar.specs.Selecting.{select}
+use Rattle.imap_grammar.specs.Fetching.{fetch}
 use Rattle.imap_grammar.specs.Messages.{append, store, copy, uid_expunge}
 
 -- what stands behind a name behind UID
 abbrev pub uid_arguments : UidVerb → Reading Command
+uid_arguments uid.Fetch = fetch true
 uid_arguments uid.Store = store true
 uid_arguments uid.Copy = copy true
 uid_arguments uid.Expunge = uid_expunge
@@ -56,6 +58,7 @@ arguments verb.Select = select false
 arguments verb.Examine = select true
 arguments verb.Store = store false
 arguments verb.Copy = copy false
+arguments verb.Fetch = fetch false
 arguments verb.Uid = by_uids
 
 -- A command without its tag.

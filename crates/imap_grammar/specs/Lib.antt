@@ -12,4 +12,5 @@ pub mod Session
 pub mod Mailboxes
 pub mod Selecting
 pub mod Messages
+pub mod Fetching
 pub mod Commands

@@ -1,7 +1,7 @@
 -- The names of commands.
 use Rattle.std.specs.Prelude.{ℕ, List, [], ◌∷◌, codes}
 use Rattle.imap_grammar.specs.declared.verbs.Verb.{Verb}
-use Rattle.imap_grammar.specs.declared.verbs.Verb.TheVariants.{Capability, Noop, Logout, Check, Close, Expunge, Login, Authenticate, Create, Delete, Subscribe, Unsubscribe, Rename, List as ListNames, Lsub, Status, Append, Select, Examine, Store, Copy, Uid}
+use Rattle.imap_grammar.specs.declared.verbs.Verb.TheVariants.{Capability, Noop, Logout, Check, Close, Expunge, Login, Authenticate, Create, Delete, Subscribe, Unsubscribe, Rename, List as ListNames, Lsub, Status, Append, Select, Examine, Store, Copy, Fetch, Uid}
 use Rattle.imap_grammar.specs.declared.verbs.UidVerb.{UidVerb}
 use Rattle.imap_grammar.specs.declared.verbs.UidVerb.TheVariants as uid
 
@@ -28,13 +28,15 @@ verbs =
     ∷ (codes "EXAMINE", Examine)
     ∷ (codes "STORE", Store)
     ∷ (codes "COPY", Copy)
+    ∷ (codes "FETCH", Fetch)
     ∷ (codes "UID", Uid)
     ∷ []
 
 -- The commands that UID stands before.
 abbrev pub uid_verbs : List (List ℕ × UidVerb)
 uid_verbs =
-    (codes "STORE", uid.Store)
+    (codes "FETCH", uid.Fetch)
+    ∷ (codes "STORE", uid.Store)
     ∷ (codes "COPY", uid.Copy)
     ∷ (codes "EXPUNGE", uid.Expunge)
     ∷ []

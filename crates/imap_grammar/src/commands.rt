@@ -1,6 +1,6 @@
 //! What commands are.
 use crate::flags::{Flag, FlagChange};
-use crate::items::StatusItem;
+use crate::items::{FetchItem, StatusItem};
 use crate::selecting::Resync;
 use crate::sets::SeqSet;
 use date_grammar::Stamp;
@@ -63,6 +63,14 @@ pub enum Command {
         how: FlagChange,
         silent: bool,
         flags: Items<Flag>,
+    },
+    /// Those that have changed since are told alone; with `vanished` the gone ones too.
+    Fetch {
+        by_uid: bool,
+        set: SeqSet,
+        items: Items<FetchItem>,
+        changed_since: Option<u64>,
+        vanished: bool,
     },
     Copy {
         by_uid: bool,

@@ -3,6 +3,7 @@
 
 mod classes;
 mod commands;
+mod fetching;
 mod flags;
 mod items;
 mod lists;
@@ -20,7 +21,7 @@ mod words;
 
 pub use commands::{Bad, Command, ParseFault, Tagged};
 pub use flags::{Flag, FlagChange};
-pub use items::StatusItem;
+pub use items::{FetchItem, Section, SectionPart, StatusItem};
 pub use parsing::parse;
 pub use selecting::Resync;
 pub use sets::SeqSet;

@@ -5,6 +5,7 @@ ghost use Rattle.imap_grammar.specs.Readings.{Reads};
 
 use crate::classes::Class;
 use crate::commands::{Bad, Command, ParseFault, Tagged};
+use crate::fetching::fetch;
 use crate::mailboxes::{listing, one_name, rename, status};
 use crate::messages::{append, copy, store, uid_expunge};
 use crate::reader::{Fault, Reader};
@@ -88,6 +89,7 @@ fn arguments(alloc: Global, reader: &mut Reader<'_>, name: Verb) -> Result<Comma
         Verb::Examine => select(alloc, reader, true),
         Verb::Store => store(alloc, reader, false),
         Verb::Copy => copy(alloc, reader, false),
+        Verb::Fetch => fetch(alloc, reader, false),
         Verb::Uid => by_uids(alloc, reader),
     }
 }
@@ -106,6 +108,7 @@ fn uid_arguments(alloc: Global, reader: &mut Reader<'_>, name: UidVerb) -> Resul
     ensures { Reads (spec.uid_arguments name reader.old) result reader.new }
 {
     match name {
+        UidVerb::Fetch => fetch(alloc, reader, true),
         UidVerb::Store => store(alloc, reader, true),
         UidVerb::Copy => copy(alloc, reader, true),
         UidVerb::Expunge => uid_expunge(alloc, reader),

@@ -1,6 +1,6 @@
 //! A text that is read from its front.
 ghost use Rattle.std.specs.Prelude.{◌≡◌, ◌≤◌, ◌<◌, ◌+◌, length, take, drop};
-ghost use Rattle.mail_text.specs.Texts.{front, behind};
+ghost use Rattle.mail_text.specs.Texts.{begins as begins_of, front, behind};
 ghost use Rattle.imap_grammar.specs.Classes.{is_in as is_in_of};
 ghost use Rattle.imap_grammar.specs.Readings as spec;
 ghost use Rattle.imap_grammar.specs.Readings.{Reads};
@@ -58,6 +58,16 @@ impl<'a> Reader<'a> {
     {
         match self.rest {
             [first, ..] => *first == b,
+            [] => false,
+        }
+    }
+
+    /// Whether the next byte is of the class.
+    pub(crate) fn begins(&self, class: Class) -> bool
+        ensures { result ≡ begins_of (is_in_of class) self.now }
+    {
+        match self.rest {
+            [first, ..] => is_in(class, *first),
             [] => false,
         }
     }

@@ -29,10 +29,11 @@ pub(crate) enum Verb {
     Examine,
     Store,
     Copy,
+    Fetch,
     Uid,
 }
 
-const VERBS: [(&[u8], Verb); 22] = [
+const VERBS: [(&[u8], Verb); 23] = [
     (b"CAPABILITY", Verb::Capability),
     (b"NOOP", Verb::Noop),
     (b"LOGOUT", Verb::Logout),
@@ -54,18 +55,21 @@ const VERBS: [(&[u8], Verb); 22] = [
     (b"EXAMINE", Verb::Examine),
     (b"STORE", Verb::Store),
     (b"COPY", Verb::Copy),
+    (b"FETCH", Verb::Fetch),
     (b"UID", Verb::Uid),
 ];
 
 /// The commands that UID stands before (RFC 3501 §6.4.8, RFC 4315 §2.1).
 #[derive(Clone, Copy, Debug, PartialEq, Eq)]
 pub(crate) enum UidVerb {
+    Fetch,
     Store,
     Copy,
     Expunge,
 }
 
-const UID_VERBS: [(&[u8], UidVerb); 3] = [
+const UID_VERBS: [(&[u8], UidVerb); 4] = [
+    (b"FETCH", UidVerb::Fetch),
     (b"STORE", UidVerb::Store),
     (b"COPY", UidVerb::Copy),
     (b"EXPUNGE", UidVerb::Expunge),
