@@ -16,15 +16,19 @@ use Rattle.imap_grammar.specs.Readings.{Reading, Outcome, ◌>>=◌, ◌>>◌, p
 use Rattle.imap_grammar.specs.Strings.{some}
 use Rattle.imap_grammar.specs.Words.{keyword}
 use Rattle.imap_grammar.specs.Verbs.{verbs, uid_verbs}
-use Rattle.imap_grammar.specs.Session.{alone, login, authenticate}
+use Rattle.imap_grammar.specs.Session.{alone, login, authenticate, enable}
 use Rattle.imap_grammar.specs.Mailboxes.{named_mailbox, rename, listing, status}
 use Rattle.imap_grammar.specs.Selecting.{select}
 use Rattle.imap_grammar.specs.Fetching.{fetch}
+use Rattle.imap_grammar.specs.Finding.{search, sort, thread}
 use Rattle.imap_grammar.specs.Messages.{append, store, copy, uid_expunge}
 
 -- what stands behind a name behind UID
 abbrev pub uid_arguments : UidVerb → Reading Command
 uid_arguments uid.Fetch = fetch true
+uid_arguments uid.Search = search true
+uid_arguments uid.Sort = sort true
+uid_arguments uid.Thread = thread true
 uid_arguments uid.Store = store true
 uid_arguments uid.Copy = copy true
 uid_arguments uid.Expunge = uid_expunge
@@ -59,6 +63,10 @@ arguments verb.Examine = select true
 arguments verb.Store = store false
 arguments verb.Copy = copy false
 arguments verb.Fetch = fetch false
+arguments verb.Search = search false
+arguments verb.Sort = sort false
+arguments verb.Thread = thread false
+arguments verb.Enable = enable
 arguments verb.Uid = by_uids
 
 -- A command without its tag.

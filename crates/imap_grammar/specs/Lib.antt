@@ -13,4 +13,7 @@ pub mod Mailboxes
 pub mod Selecting
 pub mod Messages
 pub mod Fetching
+pub mod Keys
+pub mod Searching
+pub mod Finding
 pub mod Commands

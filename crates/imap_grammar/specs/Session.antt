@@ -1,9 +1,10 @@
--- Commands of the session (RFC 3501 §6.1, §6.2).
+-- Commands of the session (RFC 3501 §6.1, §6.2; RFC 5161 §3.1).
 use Rattle.imap_grammar.specs.declared.commands.Command.{Command}
-use Rattle.imap_grammar.specs.declared.commands.Command.TheVariants.{Login, Authenticate}
+use Rattle.imap_grammar.specs.declared.commands.Command.TheVariants.{Login, Authenticate, Enable}
 use Rattle.imap_grammar.specs.declared.classes.Class.TheVariants.{Atom}
 use Rattle.imap_grammar.specs.Readings.{Reading, ◌>>=◌, ◌>>◌, pure, space, end}
 use Rattle.imap_grammar.specs.Strings.{some, astring}
+use Rattle.imap_grammar.specs.Lists.{separated}
 
 -- a command that ends here
 unfoldable pub alone : Command → Reading Command
@@ -26,3 +27,10 @@ authenticate = do
   mechanism ← some Atom
   end
   pure (Authenticate mechanism)
+
+unfoldable pub enable : Reading Command
+enable = do
+  space
+  names ← separated 32 (some Atom)
+  end
+  pure (Enable names)

@@ -23,3 +23,7 @@ keyword table = λ text. option_map (λ a. (a, behind (is_in Word) text)) (named
 -- This keyword.
 unfoldable pub word : List ℕ → Reading (Unit {0})
 word name = λ text. if is_same (front (is_in Word) text) name then Some (tt, behind (is_in Word) text) else None
+
+-- Two rules, of which the first is taken where this keyword comes next.
+abbrev pub spelled : {A : Type 0} → List ℕ → Reading A → Reading A → Reading A
+spelled name p q = λ text. if is_same (front (is_in Word) text) name then p text else q text

@@ -1,6 +1,8 @@
 //! What commands are.
+use crate::finding::SortKey;
 use crate::flags::{Flag, FlagChange};
 use crate::items::{FetchItem, StatusItem};
+use crate::searching::SearchKey;
 use crate::selecting::Resync;
 use crate::sets::SeqSet;
 use date_grammar::Stamp;
@@ -22,6 +24,8 @@ pub enum Command {
     },
     /// The mechanism, as it is written.
     Authenticate(Octets),
+    /// The capabilities as they are written, at least one.
+    Enable(Items<Octets>),
     Create(Octets),
     Delete(Octets),
     Subscribe(Octets),
@@ -71,6 +75,25 @@ pub enum Command {
         items: Items<FetchItem>,
         changed_since: Option<u64>,
         vanished: bool,
+    },
+    /// The texts of the key are in the charset, or in UTF-8.
+    Search {
+        by_uid: bool,
+        charset: Option<Octets>,
+        key: SearchKey,
+    },
+    /// The first of the keys counts most.
+    Sort {
+        by_uid: bool,
+        keys: Items<SortKey>,
+        charset: Octets,
+        key: SearchKey,
+    },
+    /// Threads by ORDEREDSUBJECT.
+    Thread {
+        by_uid: bool,
+        charset: Octets,
+        key: SearchKey,
     },
     Copy {
         by_uid: bool,

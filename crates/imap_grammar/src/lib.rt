@@ -4,13 +4,16 @@
 mod classes;
 mod commands;
 mod fetching;
+mod finding;
 mod flags;
 mod items;
+mod keys;
 mod lists;
 mod mailboxes;
 mod messages;
 mod parsing;
 mod reader;
+mod searching;
 mod selecting;
 mod session;
 mod sets;
@@ -20,8 +23,10 @@ mod verbs;
 mod words;
 
 pub use commands::{Bad, Command, ParseFault, Tagged};
+pub use finding::{SortBy, SortKey};
 pub use flags::{Flag, FlagChange};
 pub use items::{FetchItem, Section, SectionPart, StatusItem};
 pub use parsing::parse;
+pub use searching::SearchKey;
 pub use selecting::Resync;
 pub use sets::SeqSet;

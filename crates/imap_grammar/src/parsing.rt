@@ -6,11 +6,12 @@ ghost use Rattle.imap_grammar.specs.Readings.{Reads};
 use crate::classes::Class;
 use crate::commands::{Bad, Command, ParseFault, Tagged};
 use crate::fetching::fetch;
+use crate::finding::{search, sort, thread};
 use crate::mailboxes::{listing, one_name, rename, status};
 use crate::messages::{append, copy, store, uid_expunge};
 use crate::reader::{Fault, Reader};
 use crate::selecting::select;
-use crate::session::{alone, authenticate, login};
+use crate::session::{alone, authenticate, enable, login};
 use crate::spellings::Spelling;
 use crate::strings::some;
 use crate::verbs::{UidVerb, Verb, read_uid_verb, read_verb};
@@ -90,6 +91,10 @@ fn arguments(alloc: Global, reader: &mut Reader<'_>, name: Verb) -> Result<Comma
         Verb::Store => store(alloc, reader, false),
         Verb::Copy => copy(alloc, reader, false),
         Verb::Fetch => fetch(alloc, reader, false),
+        Verb::Search => search(alloc, reader, false),
+        Verb::Sort => sort(alloc, reader, false),
+        Verb::Thread => thread(alloc, reader, false),
+        Verb::Enable => enable(alloc, reader),
         Verb::Uid => by_uids(alloc, reader),
     }
 }
@@ -109,6 +114,9 @@ fn uid_arguments(alloc: Global, reader: &mut Reader<'_>, name: UidVerb) -> Resul
 {
     match name {
         UidVerb::Fetch => fetch(alloc, reader, true),
+        UidVerb::Search => search(alloc, reader, true),
+        UidVerb::Sort => sort(alloc, reader, true),
+        UidVerb::Thread => thread(alloc, reader, true),
         UidVerb::Store => store(alloc, reader, true),
         UidVerb::Copy => copy(alloc, reader, true),
         UidVerb::Expunge => uid_expunge(alloc, reader),

@@ -114,6 +114,14 @@ impl<'a> Reader<'a> {
         self.rest
     }
 
+    /// Goes over so many bytes.
+    pub(crate) fn skip(&mut self, len: usize)
+        requires { len ≤ length self.old }
+        ensures { self.new ≡ drop len self.old }
+    {
+        self.rest = &self.rest[len..];
+    }
+
     /// The next so many bytes, and the byte behind them dropped.
     pub(crate) fn split(&mut self, len: usize) -> &'a [u8]
         requires { len < length self.old }

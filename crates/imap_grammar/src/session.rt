@@ -4,8 +4,10 @@ ghost use Rattle.imap_grammar.specs.Readings.{Reads};
 
 use crate::classes::Class;
 use crate::commands::Command;
+use crate::lists::{Rule, read_separated};
 use crate::reader::{Fault, Reader};
 use crate::strings::{some, string_or};
+use octets::Octets;
 use std::alloc::Global;
 
 /// A command that ends here.
@@ -40,4 +42,31 @@ pub(crate) fn authenticate(alloc: Global, reader: &mut Reader<'_>) -> Result<Com
     let mechanism = some(reader, Class::Atom)?;
     reader.end()?;
     Ok(Command::Authenticate(mechanism.to_octets(alloc)?))
+}
+
+/// An atom.
+struct AtomRule;
+
+impl Rule for AtomRule {
+    type Value = Octets;
+
+    ghost use Rattle.imap_grammar.specs.declared.classes.Class.TheVariants.{Atom};
+    ghost use Rattle.imap_grammar.specs.Strings.{some};
+
+    ghost reading = { λ _. some Atom };
+
+    fn read(&self, alloc: Global, reader: &mut Reader<'_>) -> Result<Octets, Fault> {
+        let name = some(reader, Class::Atom)?;
+        Ok(name.to_octets(alloc)?)
+    }
+}
+
+#[tactic(auto, unfolding(crate::specs::Session::enable))]
+pub(crate) fn enable(alloc: Global, reader: &mut Reader<'_>) -> Result<Command, Fault>
+    ensures { Reads (spec.enable reader.old) result reader.new }
+{
+    reader.byte(b' ')?;
+    let names = read_separated(alloc, reader, b' ', &AtomRule)?;
+    reader.end()?;
+    Ok(Command::Enable(names))
 }

@@ -30,10 +30,14 @@ pub(crate) enum Verb {
     Store,
     Copy,
     Fetch,
+    Search,
+    Sort,
+    Thread,
+    Enable,
     Uid,
 }
 
-const VERBS: [(&[u8], Verb); 23] = [
+const VERBS: [(&[u8], Verb); 27] = [
     (b"CAPABILITY", Verb::Capability),
     (b"NOOP", Verb::Noop),
     (b"LOGOUT", Verb::Logout),
@@ -56,19 +60,29 @@ const VERBS: [(&[u8], Verb); 23] = [
     (b"STORE", Verb::Store),
     (b"COPY", Verb::Copy),
     (b"FETCH", Verb::Fetch),
+    (b"SEARCH", Verb::Search),
+    (b"SORT", Verb::Sort),
+    (b"THREAD", Verb::Thread),
+    (b"ENABLE", Verb::Enable),
     (b"UID", Verb::Uid),
 ];
 
 /// The commands that UID stands before (RFC 3501 §6.4.8, RFC 4315 §2.1).
 #[derive(Clone, Copy, Debug, PartialEq, Eq)]
 pub(crate) enum UidVerb {
+    Search,
+    Sort,
+    Thread,
     Fetch,
     Store,
     Copy,
     Expunge,
 }
 
-const UID_VERBS: [(&[u8], UidVerb); 4] = [
+const UID_VERBS: [(&[u8], UidVerb); 7] = [
+    (b"SEARCH", UidVerb::Search),
+    (b"SORT", UidVerb::Sort),
+    (b"THREAD", UidVerb::Thread),
     (b"FETCH", UidVerb::Fetch),
     (b"STORE", UidVerb::Store),
     (b"COPY", UidVerb::Copy),

@@ -2,6 +2,10 @@
 ghost use Rattle.std.specs.Prelude.{◌≡◌};
 ghost use Rattle.imap_grammar.specs.Words.{entries, keyword as keyword_of, named as named_of, word as word_of};
 ghost use Rattle.imap_grammar.specs.Readings.{Reads};
+ghost use Rattle.imap_grammar.specs.declared.classes.Class.TheVariants.{Word};
+ghost use Rattle.imap_grammar.specs.Classes.{is_in};
+ghost use Rattle.mail_text.specs.Case.{is_same};
+ghost use Rattle.mail_text.specs.Texts.{front};
 
 use crate::classes::Class;
 use crate::reader::{Fault, Reader};
@@ -43,4 +47,11 @@ pub(crate) fn word(reader: &mut Reader<'_>, name: &[u8]) -> Result<(), Fault>
     } else {
         Err(Fault::NoReading)
     }
+}
+
+/// Whether this keyword comes next.
+pub(crate) fn comes(reader: &Reader<'_>, name: &[u8]) -> bool
+    ensures { result ≡ is_same (front (is_in Word) reader.now) name.now }
+{
+    same(Reader::new(reader.rest()).front(Class::Word), name)
 }
