@@ -16,10 +16,14 @@ pub record World : Type 0 where
 -- A change of the world. There is none yet.
 pub data Change : Type 0 where
 
+-- the world after a change, with a case for each change
+unfoldable pub applied : World → Change → World
+applied world change = elim change [ ]
+
 -- the world after a change, if there is one
 abbrev pub changed : World → Option Change → World
 changed world None = world
-changed world (Some change) = world
+changed world (Some change) = applied world change
 
 -- What sessions share: the world of mail, and their own parts, in the order of their opening.
 pub record Shared : Type 0 where
