@@ -2,3 +2,4 @@ pub mod Commands
 pub mod Step
 pub mod Machine
 pub mod Pieces
+pub mod Changes

@@ -4,10 +4,14 @@
 //! machine, `specs/Step.antt` what one unit does, `specs/Commands.antt` how a unit reads as a command.
 #![tactic(auto)]
 
+mod change_laws;
 mod laws;
 mod session_part;
 mod standing;
 
+pub use change_laws::{
+    changes_stand_by_their_answers, handed_out_stays, steps_record_their_changes,
+};
 pub use laws::{
     answers_only_grow, closing_takes_leave, open_sessions_await_a_unit, units_whatever_the_pieces,
 };

@@ -1,0 +1,8 @@
+use Rattle.mail_model.proofs.Changes.{unit-records, greeted-records}
+use Rattle.mail_model.proofs.change_laws.steps_record_their_changes.Goals as goal
+
+pub returns-clause-unit : goal.returns-clause-unit
+returns-clause-unit c = unit-records
+
+pub returns-clause-greeted : goal.returns-clause-greeted
+returns-clause-greeted c = greeted-records
