@@ -18,9 +18,9 @@ ghost use Rattle.shredder.specs.Shredding.{Shreds};
 use crate::laws::row_laws;
 use crate::new_rows::NewRows;
 use crate::trees::add_node;
-use canon_writer::write_message;
+use canon_writer::printed_size;
 use disk_model::Disk;
-use mime_tree::{Mail, Reason};
+use mime_tree::{Mail, Message, Reason};
 use ordered_rows::laws::new_number;
 use row_store::{RowStore, StoreFault};
 use row_tables::laws::message_is_unknown;
@@ -82,12 +82,23 @@ fn own_rows(
     ensures rows { IfOk result (λ made. made.1.items
         ≡ InsertMessageRow (record { id = made.0; size = length (print mail.now.message) }) ∷ reason_changes made.0 mail.now.reason) }
 {
-    let size = write_message(alloc, &mail.message)?.len() as u64;
+    let size = text_size(&mail.message)?;
     let id = tables.new_message_id();
     let mut changes = Vec::new(alloc);
     changes.push(RowChange::InsertMessageRow(MessageRow { id, size }))?;
     push_reason(&mut changes, id, mail.reason)?;
     Ok((id, changes))
+}
+
+// How long the canonical text is. No memory could hold a text whose length is no number of 64 bits.
+fn text_size(message: &Message) -> Result<u64, AllocError>
+    ensures { IfOk result (λ size. size ≡ length (print message.now)) }
+{
+    let size = printed_size(message);
+    if size == usize::MAX {
+        return Err(AllocError);
+    }
+    Ok(size as u64)
 }
 
 // Adds the row of the reason, if the message could not be read.

@@ -1,4 +1,4 @@
-use Rattle.std.proofs.Common.{◌≡◌, ℕ, List, [], ◌∷◌, ◌++◌, length, ap, ◌∙◌, rules}
+use Rattle.std.proofs.Common.{◌≡◌, ℕ, List, [], ◌∷◌, ◌++◌, length, ap, ◌∙◌}
 use Rattle.canon_writer.specs.Printing.{print}
 use Rattle.row_tables.specs.declared.change.RowChange.{RowChange}
 use Rattle.row_tables.specs.declared.change.RowChange.TheVariants.{InsertMessageRow}
@@ -9,7 +9,7 @@ pub returns-clause-rows : goal.returns-clause-rows
 returns-clause-rows c =
     let mail = c.args.mail.now in
     let id : ℕ = c.new_message_id-id.result in
-    let size : c.len-size.result ≡ length (print mail.message) = search rules in
+    let size : c.in_ok-size.size ≡ length (print mail.message) = c.in_ok-size.ensures in
     let first : c.push.new.self.items ≡ InsertMessageRow (record { id = id; size = length (print mail.message) }) ∷ [] =
-    c.in_ok-push.ensures.items ∙ ap (λ (l : List RowChange). l ++ InsertMessageRow (record { id = id; size = c.len-size.result }) ∷ []) c.new-changes.ensures.items ∙ ap (λ (n : ℕ). InsertMessageRow (record { id = id; size = n }) ∷ []) size in
+    c.in_ok-push.ensures.items ∙ ap (λ (l : List RowChange). l ++ InsertMessageRow (record { id = id; size = c.in_ok-size.size }) ∷ []) c.new-changes.ensures.items ∙ ap (λ (n : ℕ). InsertMessageRow (record { id = id; size = n }) ∷ []) size in
     c.in_ok-push_reason.ensures ∙ ap (λ (l : List RowChange). l ++ reason_changes id mail.reason) first
