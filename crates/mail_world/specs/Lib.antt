@@ -1,0 +1,13 @@
+pub mod Names
+pub mod Flags
+pub mod Worlds
+pub mod Limits
+pub mod Changes
+pub mod Users
+pub mod Subscriptions
+pub mod Arrivals
+pub mod Storing
+pub mod Renaming
+pub mod Applying
+pub mod Legal
+pub mod Laws
