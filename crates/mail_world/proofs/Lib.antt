@@ -1,1 +1,5 @@
 mod Examples
+pub mod Finding
+pub mod Arriving
+pub mod Leaving
+pub mod Following

@@ -13,9 +13,13 @@ use Rattle.mail_world.specs.Changes.{Refusal, Absent, Full, NoUid, first_refusal
 abbrev pub with_changed : (Mailbox → Bool) → (Mailbox → Mailbox) → World → World
 with_changed which change world = record world { mailboxes = map (λ mailbox. if which mailbox then change mailbox else mailbox) world.mailboxes }
 
--- what a mailbox refuses, where there is one of the id
+-- what a mailbox refuses, where there is one
+abbrev pub unless_absent : Option Mailbox → (Mailbox → Option Refusal) → Option Refusal
+unless_absent None reason = Some Absent
+unless_absent (Some mailbox) reason = reason mailbox
+
 abbrev pub refused_by : World → ℕ → (Mailbox → Option Refusal) → Option Refusal
-refused_by world id reason = elim (mailbox_at id world.mailboxes) [ None ↦ Some Absent | Some mailbox ↦ reason mailbox ]
+refused_by world id reason = unless_absent (mailbox_at id world.mailboxes) reason
 
 -- messages as entries with one mod-sequence, the UIDs from one on
 abbrev pub numbered : ℕ → ℕ → List Message → List Entry
@@ -67,9 +71,13 @@ delivered world users mail date taken =
 abbrev pub messages_at : List ℕ → Mailbox → List Message
 messages_at uids mailbox = map (λ entry. entry.message) (filter (λ entry. is_among entry.uid uids) mailbox.entries)
 
--- the same in a store, none where there is no mailbox of the id
+-- the same, none where there is no mailbox
+abbrev pub messages_in : List ℕ → Option Mailbox → List Message
+messages_in uids None = []
+messages_in uids (Some mailbox) = messages_at uids mailbox
+
 abbrev pub copied : World → ℕ → List ℕ → List Message
-copied world id uids = elim (mailbox_at id world.mailboxes) [ None ↦ [] | Some mailbox ↦ messages_at uids mailbox ]
+copied world id uids = messages_in uids (mailbox_at id world.mailboxes)
 
 -- No message can be copied into any mailbox.
 abbrev pub copy_refused : World → ℕ → List ℕ → ℕ → Option Refusal

@@ -50,9 +50,10 @@ moved_inbox id to source =
     record moved { head = record moved.head { first_recent = 1 + count_by (λ entry. nat_lt entry.uid source.head.first_recent) source.entries } }
 
 -- INBOX stays, without its messages; inferiors of it stay as they are.
+abbrev pub with_inbox_moved : Option Mailbox → World → ℕ → List ℕ → World
+with_inbox_moved None world owner to = world
+with_inbox_moved (Some source) world owner to =
+    with_mailbox (moved_inbox world.next to source) (with_changed (is_named owner inbox) (without_messages (λ uid. true)) world)
+
 abbrev pub inbox_renamed : World → ℕ → List ℕ → World
-inbox_renamed world owner to =
-    elim (mailbox_named owner inbox world.mailboxes) [
-      | None ↦ world
-      | Some source ↦ with_mailbox (moved_inbox world.next to source) (with_changed (is_named owner inbox) (without_messages (λ uid. true)) world)
-    ]
+inbox_renamed world owner to = with_inbox_moved (mailbox_named owner inbox world.mailboxes) world owner to

@@ -4,3 +4,7 @@
 //! There is no code here but functions whose contracts are laws of the definitions, which stand in `specs/`: `Worlds` says what a
 //! store is, `Changes` and `Applying` what is done to it, `Legal` what then holds of it, `Laws` what users rely on.
 #![tactic(auto)]
+
+mod laws;
+
+pub use laws::mailboxes_follow;
