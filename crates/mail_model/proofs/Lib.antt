@@ -2,4 +2,5 @@ pub mod Units
 pub mod Growing
 pub mod Changes
 pub mod HandedOut
+pub mod Between
 mod Examples

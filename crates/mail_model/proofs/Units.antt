@@ -13,7 +13,7 @@ first-nil : (form : Form) → first form [] ≡ None
 unfolding first
 first-nil form = refl
 
-take_byte-closed : (moment : ℕ) (taking : Taking) (byte : ℕ) → is_open taking.session.standing ≡ false → take_byte moment taking byte ≡ taking
+pub take_byte-closed : (moment : ℕ) (taking : Taking) (byte : ℕ) → is_open taking.session.standing ≡ false → take_byte moment taking byte ≡ taking
 unfolding take_byte
 take_byte-closed moment taking byte h = rw h refl
 

@@ -3,3 +3,4 @@ pub mod Step
 pub mod Machine
 pub mod Pieces
 pub mod Changes
+pub mod Between

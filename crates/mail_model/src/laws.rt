@@ -1,10 +1,11 @@
 //! Laws of the machine, each the contract of a function that does nothing.
 
-ghost use Rattle.std.specs.Prelude.{ℕ, ◌≡◌, ◌∷◌, ◌++◌, List, None, Some, true, false};
-ghost use Rattle.port_model.specs.History.{PortEvent};
+ghost use Rattle.std.specs.Prelude.{ℕ, ◌≡◌, ◌≢◌, ◌∷◌, ◌++◌, List, None, Some, true, false};
+ghost use Rattle.port_model.specs.History.{PortEvent, Piece};
 ghost use Rattle.imap_lexer.specs.Units.{Cut, first};
 ghost use Rattle.mail_model.specs.Step.{Shared, Stepped, World, has_part};
-ghost use Rattle.mail_model.specs.Machine.{Machine, Session, Taking, after_unit, is_open, leaves, machine, opens, take_piece};
+ghost use Rattle.mail_model.specs.Machine.{Machine, Session, Taking, after_unit, is_open, leaves, machine, opens, session_at, take_piece};
+ghost use Rattle.mail_model.specs.Between.{EndsNoUnit, IsAlone, link_of};
 ghost use Rattle.mail_model.specs.Pieces.{IsAwaiting, OpenAwait, TakesUnit, goes_on};
 
 use imap_lexer::units_end_where_they_end;
@@ -47,3 +48,13 @@ pub fn answers_only_grow()
     ensures { (world : World) (event : PortEvent) (older : List PortEvent) (number : ℕ)
         → ((more : List ℕ) × ((machine world (event ∷ older)).out number ≡ (machine world older).out number ++ more)) }
 {}
+
+/// A law of the machine: a piece that ends no unit of its session may as well come after what happens on another link,
+/// at whatever moment, where its number is one session's alone.
+pub fn other_links_between_pieces()
+    ensures { (world : World) (older : List PortEvent) (number earlier later : ℕ) (piece : List ℕ) (event : PortEvent) → link_of event ≢ number
+        → IsAlone number (machine world older).sessions → EndsNoUnit (session_at number (machine world older).sessions) piece
+        → machine world (event ∷ Piece number piece earlier ∷ older) ≡ machine world (Piece number piece later ∷ event ∷ older) }
+{
+    units_end_where_they_end();
+}
