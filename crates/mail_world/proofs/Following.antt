@@ -75,13 +75,13 @@ more_keeps taken (message ∷ messages) m = refl
 left_keeps : (which : ℕ → Bool) (m : Mailbox) → (without_messages which m).head.id ≡ m.head.id
 left_keeps which m = cond_both _ _ m (λ n. n.head.id ≡ m.head.id) (λ e. refl) (λ e. refl)
 
-left_owner : (which : ℕ → Bool) (m : Mailbox) → (without_messages which m).head.owner ≡ m.head.owner
+pub left_owner : (which : ℕ → Bool) (m : Mailbox) → (without_messages which m).head.owner ≡ m.head.owner
 left_owner which m = cond_both _ _ m (λ n. n.head.owner ≡ m.head.owner) (λ e. refl) (λ e. refl)
 
 stored_keeps : (uids : List ℕ) (how : _) (named : _) (m : Mailbox) → (with_stored uids how named m).head.id ≡ m.head.id
 stored_keeps uids how named m = cond_both _ _ m (λ n. n.head.id ≡ m.head.id) (λ e. refl) (λ e. refl)
 
-stored_owner : (uids : List ℕ) (how : _) (named : _) (m : Mailbox) → (with_stored uids how named m).head.owner ≡ m.head.owner
+pub stored_owner : (uids : List ℕ) (how : _) (named : _) (m : Mailbox) → (with_stored uids how named m).head.owner ≡ m.head.owner
 stored_owner uids how named m = cond_both _ _ m (λ n. n.head.owner ≡ m.head.owner) (λ e. refl) (λ e. refl)
 
 -- Mailboxes that are made or deleted.

@@ -3,3 +3,4 @@ pub mod Finding
 pub mod Arriving
 pub mod Leaving
 pub mod Following
+pub mod Apart

@@ -7,4 +7,4 @@
 
 mod laws;
 
-pub use laws::mailboxes_follow;
+pub use laws::{mailboxes_follow, others_keep_their_own};
