@@ -15,10 +15,10 @@ use Rattle.mail_model.proofs.Units.{Stays, awaits, take_byte-closed}
 
 -- Numbers
 
-equal : (a b : ℕ) → (a == b) ≡ true → a ≡ b
+pub equal : (a b : ℕ) → (a == b) ≡ true → a ≡ b
 equal a b e = grind (arith, nat_tests)
 
-differs : (a b : ℕ) → a ≢ b → (a == b) ≡ false
+pub differs : (a b : ℕ) → a ≢ b → (a == b) ≡ false
 differs a b e = grind (arith, nat_tests)
 
 both_numbers : (a b n : ℕ) → (a == b) ≡ false → (n == a) ≡ true → (n == b) ≡ true → ⊥
@@ -81,7 +81,7 @@ heard stays moment piece before session none = by (is_open session.standing) ref
 
 -- Sessions by their numbers
 
-number_found : (number : ℕ) (sessions : List Session) (session : Session) → session_at number sessions ≡ Some session → session.number ≡ number
+pub number_found : (number : ℕ) (sessions : List Session) (session : Session) → session_at number sessions ≡ Some session → session.number ≡ number
 number_found number [] session at = absurd (cc)
 number_found number (s ∷ sessions) session at = by (s.number == number) refl (number_found number sessions session)
   where
@@ -91,7 +91,7 @@ number_found number (s ∷ sessions) session at = by (s.number == number) refl (
         ap (λ (x : Session). x.number) (sym same) ∙ equal s.number number e
     by false e rest = rest (ap (λ (b : Bool). cond b (Some s) (session_at number sessions)) (sym e) ∙ at)
 
-found_beside : (number : ℕ) (new : Session) (sessions : List Session) → (new.number == number) ≡ false → session_at number (becomes new sessions) ≡ session_at number sessions
+pub found_beside : (number : ℕ) (new : Session) (sessions : List Session) → (new.number == number) ≡ false → session_at number (becomes new sessions) ≡ session_at number sessions
 found_beside number new [] ne = refl
 found_beside number new (s ∷ sessions) ne = by (s.number == new.number) refl (found_beside number new sessions ne)
   where
@@ -102,7 +102,7 @@ found_beside number new (s ∷ sessions) ne = by (s.number == new.number) refl (
         ap (λ (b : Bool). cond b (Some new) (session_at number (becomes new sessions))) ne ∙ rest ∙ sym (ap (λ (b : Bool). cond b (Some s) (session_at number sessions)) other)
     by false e rest = ap (λ (found : Option Session). cond (s.number == number) (Some s) found) rest
 
-found_before : (number : ℕ) (new : Session) (sessions : List Session) → (new.number == number) ≡ false → session_at number (sessions ++ new ∷ []) ≡ session_at number sessions
+pub found_before : (number : ℕ) (new : Session) (sessions : List Session) → (new.number == number) ≡ false → session_at number (sessions ++ new ∷ []) ≡ session_at number sessions
 found_before number new [] ne = ap (λ (b : Bool). cond b (Some new) None) ne
 found_before number new (s ∷ sessions) ne = ap (λ (found : Option Session). cond (s.number == number) (Some s) found) (found_before number new sessions ne)
 
@@ -168,7 +168,7 @@ same_count new session (s ∷ sessions) so_far st at alone = by (s.number == new
 
 -- A quiet piece and what happens on another link
 
-same_machine : (a b : Machine) → a.shared ≡ b.shared → a.sessions ≡ b.sessions → a.out ≡ b.out → a.changes ≡ b.changes → a.last ≡ b.last → a ≡ b
+pub same_machine : (a b : Machine) → a.shared ≡ b.shared → a.sessions ≡ b.sessions → a.out ≡ b.out → a.changes ≡ b.changes → a.last ≡ b.last → a ≡ b
 same_machine a b s n o c l = λ i. record { shared = s i; sessions = n i; out = o i; changes = c i; last = l i }
 
 quiet_opens : (session : Session) (piece : List ℕ) (before : Machine) (number : ℕ) (greeted : Stepped) → (number == session.number) ≡ false → (session.number == number) ≡ false
@@ -201,11 +201,11 @@ number_of_byte moment taking byte = by (is_open taking.session.standing) (first 
     by true (Some cut) = refl
     by false found = refl
 
-number_of_piece : (moment : ℕ) (taking : Taking) (piece : List ℕ) → (take_piece moment taking piece).session.number ≡ taking.session.number
+pub number_of_piece : (moment : ℕ) (taking : Taking) (piece : List ℕ) → (take_piece moment taking piece).session.number ≡ taking.session.number
 number_of_piece moment taking [] = refl
 number_of_piece moment taking (byte ∷ piece) = number_of_piece moment (take_byte moment taking byte) piece ∙ number_of_byte moment taking byte
 
-number_of_left : (shared : Shared) (session : Session) → (leaves shared session).session.number ≡ session.number
+pub number_of_left : (shared : Shared) (session : Session) → (leaves shared session).session.number ≡ session.number
 number_of_left shared session = by (is_open session.standing)
   where
     by : (served : Bool)
@@ -214,7 +214,7 @@ number_of_left shared session = by (is_open session.standing)
     by true = refl
     by false = refl
 
-abbrev acted : Machine → (Shared → Session → Taking) → Option Session → Machine
+abbrev pub acted : Machine → (Shared → Session → Taking) → Option Session → Machine
 acted before act found = elim found [ None ↦ before | Some session ↦ takes before (act before.shared session) ]
 
 -- what another session does beside the quiet one
@@ -250,14 +250,23 @@ still_acts who number before ne act kept (Some other) at =
     let same : (act before.shared other).session.number ≡ number = kept before.shared other ∙ number_found number before.sessions other at in
     found_beside who (act before.shared other).session before.sessions (ap (λ (n : ℕ). n == who) same ∙ ne)
 
-still_there : (who : ℕ) (before : Machine) (event : PortEvent) → link_of event ≢ who → session_at who (take_event before event).sessions ≡ session_at who before.sessions
+pub still_there : (who : ℕ) (before : Machine) (event : PortEvent) → link_of event ≢ who → session_at who (take_event before event).sessions ≡ session_at who before.sessions
 still_there who before (Opened number kind) other = found_before who _ before.sessions (differs number who other)
 still_there who before (Piece number bytes moment) other =
     still_acts who number before (differs number who other) (hears_piece moment bytes) (λ shared s. number_of_piece moment (taking_of shared s) bytes) (session_at number before.sessions) refl
 still_there who before (Ended number) other = still_acts who number before (differs number who other) leaves number_of_left (session_at number before.sessions) refl
 still_there who before (Lost number) other = still_acts who number before (differs number who other) leaves number_of_left (session_at number before.sessions) refl
 
-either_order : Stays → (before : Machine) (number earlier later : ℕ) (piece : List ℕ) (event : PortEvent) → link_of event ≢ number → IsAlone number before.sessions
+-- the moment of such a piece doesn't matter
+pub any_moment : Stays → (before : Machine) (number earlier later : ℕ) (piece : List ℕ) → EndsNoUnit (session_at number before.sessions) piece
+    → take_event before (Piece number piece earlier) ≡ take_event before (Piece number piece later)
+any_moment stays before number earlier later piece none = by (session_at number before.sessions) none
+  where
+    by : (found : Option Session) → EndsNoUnit found piece → acted before (hears_piece earlier piece) found ≡ acted before (hears_piece later piece) found
+    by None ends = refl
+    by (Some session) ends = heard stays earlier piece before session ends ∙ sym (heard stays later piece before session ends)
+
+pub either_order : Stays → (before : Machine) (number earlier later : ℕ) (piece : List ℕ) (event : PortEvent) → link_of event ≢ number → IsAlone number before.sessions
     → EndsNoUnit (session_at number before.sessions) piece
     → take_event (take_event before (Piece number piece earlier)) event ≡ take_event (take_event before event) (Piece number piece later)
 either_order stays before number earlier later piece event other alone none = by (session_at number before.sessions) refl

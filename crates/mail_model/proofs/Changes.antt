@@ -10,7 +10,7 @@ use Rattle.mail_model.specs.Machine.{Machine, Made, Session, Taking, is_open, an
 use Rattle.mail_model.specs.Changes.{folded, Told, told, and_told, unit_tells, byte_tells, piece_tells, event_tells, tells, AllWithin, Records}
 use Rattle.mail_model.proofs.Growing.{Grows}
 
-itself : (number : ℕ) → (number == number) ≡ true
+pub itself : (number : ℕ) → (number == number) ≡ true
 itself number = grind (arith, nat_tests)
 
 -- Ranges of answers that grow
@@ -97,7 +97,7 @@ adds-any false old more = ([], sym (append-nil old))
 adds-own : (number : ℕ) (answers : List ℕ) (out : ℕ → List ℕ) → adds number answers out number ≡ out number ++ answers
 adds-own number answers out = ap (λ (b : Bool). cond b (out number ++ answers) (out number)) (itself number)
 
-shifted : (change : Option Change) (number shift from count : ℕ) (changes older : List Made)
+pub shifted : (change : Option Change) (number shift from count : ℕ) (changes older : List Made)
     → map (behind shift) (and_change change number from count changes) ++ older ≡ and_change change number (shift + from) count (map (behind shift) changes ++ older)
 shifted None number shift from count changes older = refl
 shifted (Some change) number shift from count changes older = refl

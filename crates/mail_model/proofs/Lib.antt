@@ -3,4 +3,5 @@ pub mod Growing
 pub mod Changes
 pub mod HandedOut
 pub mod Between
+pub mod Joining
 mod Examples

@@ -1,5 +1,5 @@
 -- What the law of events between pieces says.
-use Rattle.std.specs.Prelude.{ℕ, ◌≡◌, ◌==◌, true, false, List, [], ◌∷◌, ◌++◌, Option, Some, None}
+use Rattle.std.specs.Prelude.{ℕ, ◌≡◌, ◌≢◌, ◌==◌, true, false, List, [], ◌∷◌, ◌++◌, Option, Some, None}
 use Rattle.port_model.specs.History.{PortEvent, Opened, Piece, Ended, Lost}
 use Rattle.imap_lexer.specs.Units.{first}
 use Rattle.mail_model.specs.Machine.{Session, is_open, session_at}
@@ -20,3 +20,8 @@ IsAlone number (session ∷ later) = elim (session.number == number) [ true ↦ 
 abbrev pub EndsNoUnit : Option Session → List ℕ → Type 0
 EndsNoUnit None piece = Unit {0}
 EndsNoUnit (Some session) piece = is_open session.standing ≡ true → first session.form (session.rest ++ piece) ≡ None
+
+-- what happens is on other links
+abbrev pub AllElsewhere : ℕ → List PortEvent → Type 0
+AllElsewhere number [] = Unit {0}
+AllElsewhere number (event ∷ older) = (link_of event ≢ number) × AllElsewhere number older

@@ -5,7 +5,7 @@ ghost use Rattle.port_model.specs.History.{PortEvent, Piece};
 ghost use Rattle.imap_lexer.specs.Units.{Cut, first};
 ghost use Rattle.mail_model.specs.Step.{Shared, Stepped, World, has_part};
 ghost use Rattle.mail_model.specs.Machine.{Machine, Session, Taking, after_unit, is_open, leaves, machine, opens, session_at, take_piece};
-ghost use Rattle.mail_model.specs.Between.{EndsNoUnit, IsAlone, link_of};
+ghost use Rattle.mail_model.specs.Between.{AllElsewhere, EndsNoUnit, IsAlone, link_of};
 ghost use Rattle.mail_model.specs.Pieces.{IsAwaiting, OpenAwait, TakesUnit, goes_on};
 
 use imap_lexer::units_end_where_they_end;
@@ -49,12 +49,23 @@ pub fn answers_only_grow()
         → ((more : List ℕ) × ((machine world (event ∷ older)).out number ≡ (machine world older).out number ++ more)) }
 {}
 
-/// A law of the machine: a piece that ends no unit of its session may as well come after what happens on another link,
-/// at whatever moment, where its number is one session's alone.
-pub fn other_links_between_pieces()
-    ensures { (world : World) (older : List PortEvent) (number earlier later : ℕ) (piece : List ℕ) (event : PortEvent) → link_of event ≢ number
+/// Laws of the machine: it matters neither how what a peer sends is cut into pieces, nor what happens on other links
+/// between them.
+pub fn cuts_whatever_happens_between()
+    // Two pieces at one moment are one, whatever they hold.
+    ensures pieces { (world : World) (older : List PortEvent) (number moment : ℕ) (piece later : List ℕ)
+        → machine world (Piece number later moment ∷ Piece number piece moment ∷ older) ≡ machine world (Piece number (piece ++ later) moment ∷ older) }
+
+    // A piece that ends no unit may as well come after what happens on another link, at whatever moment, where its number
+    // is one session's alone.
+    ensures later { (world : World) (older : List PortEvent) (number earlier later : ℕ) (piece : List ℕ) (event : PortEvent) → link_of event ≢ number
         → IsAlone number (machine world older).sessions → EndsNoUnit (session_at number (machine world older).sessions) piece
         → machine world (event ∷ Piece number piece earlier ∷ older) ≡ machine world (Piece number piece later ∷ event ∷ older) }
+
+    // So it may as well come with the next piece, after all that happens on other links between the two.
+    ensures together { (world : World) (older : List PortEvent) (number earlier later : ℕ) (piece rest : List ℕ) (others : List PortEvent) → AllElsewhere number others
+        → IsAlone number (machine world older).sessions → EndsNoUnit (session_at number (machine world older).sessions) piece
+        → machine world (Piece number rest later ∷ (others ++ Piece number piece earlier ∷ older)) ≡ machine world (Piece number (piece ++ rest) later ∷ (others ++ older)) }
 {
     units_end_where_they_end();
 }

@@ -13,8 +13,8 @@ pub use change_laws::{
     changes_stand_by_their_answers, handed_out_stays, steps_record_their_changes,
 };
 pub use laws::{
-    answers_only_grow, closing_takes_leave, open_sessions_await_a_unit, other_links_between_pieces,
-    units_whatever_the_pieces,
+    answers_only_grow, closing_takes_leave, cuts_whatever_happens_between,
+    open_sessions_await_a_unit, units_whatever_the_pieces,
 };
 pub use session_part::SessionPart;
 pub use standing::Standing;

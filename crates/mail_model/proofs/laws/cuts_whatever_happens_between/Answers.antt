@@ -1,0 +1,13 @@
+use Rattle.mail_model.proofs.Between.{between}
+use Rattle.mail_model.proofs.Joining.{joined, two_of_machine}
+use Rattle.mail_model.proofs.laws.cuts_whatever_happens_between.Goals as goal
+
+pub returns-clause-pieces : goal.returns-clause-pieces
+returns-clause-pieces c = two_of_machine
+
+pub returns-clause-later : goal.returns-clause-later
+returns-clause-later c = between c.units_end_where_they_end.ensures.stays
+
+pub returns-clause-together : goal.returns-clause-together
+returns-clause-together c = λ world older number earlier later piece rest others elsewhere alone none.
+    joined c.units_end_where_they_end.ensures.stays world older number earlier later piece others rest elsewhere alone none
