@@ -1,15 +1,13 @@
 //! Mails that go into a store and come back, and rows that are no mail's.
 
-ghost use Rattle.std.specs.Prelude.{◌≡◌, ◌≤◌, ◌^◌, false, [], length};
+ghost use Rattle.std.specs.Prelude.{◌≡◌, ◌≤◌, ◌^◌, false, [], length, OnOk};
 
 use crate::shredding::try_rows;
 use crate::stores::{put, store_of};
 use disk_model::MemoryDisk;
 use mime_tree::Reason;
-use octets::Octets;
 use rebuilder::{header, message, reason_in, tree};
 use row_store::RowStore;
-use row_tables::{BodyPart, DateField, FieldName, HeaderField, MessageRow, PartNumber, RowChange};
 use shredder::path_of_child;
 use std::alloc::Global;
 use std::process::Abort;
@@ -35,6 +33,7 @@ struct Rebuilt {
 
 fn read_back(alloc: Global, store: &mut RowStore<MemoryDisk>, id: u64) -> Result<Rebuilt, Fail>
     requires { store.old.spent ≡ false }
+    ensures { OnOk result ((store.new.spent ≡ false) × (store.new.placed ≡ store.old.placed)) }
 {
     let fields = header(alloc, store, id)?.len();
     let reason = reason_in(store.tables(), id);
@@ -77,98 +76,50 @@ fn try_mails(rt: &impl Abort, alloc: Global, store: &mut RowStore<MemoryDisk>) -
 
 #[test]
 fn mails_go_through_rows(rt: HostRuntime) -> Result<(), Fail> {
-    let mut store = store_of(rt.alloc(), &[])?;
+    let mut store = store_of(rt.alloc(), b"")?;
     try_mails(&rt, rt.alloc(), &mut store)
 }
 
 // ---- rows that are no mail's
 
-fn octets(alloc: Global, bytes: &[u8]) -> Result<Octets, Fail> {
-    Ok(Octets::new(bytes.to_vec(alloc)?))
-}
-
-// A message without parts.
-fn alone(alloc: Global) -> Result<Vec<RowChange>, Fail> {
-    let mut changes = Vec::new(alloc);
-    changes.push(RowChange::InsertMessageRow(MessageRow { id: 1, size: 9 }))?;
-    Ok(changes)
-}
-
-fn push_part(
-    alloc: Global,
-    changes: &mut Vec<RowChange>,
-    path: &[u8],
-    kind: u8,
-    body: u64,
-) -> Result<(), Fail> {
-    let path = octets(alloc, path)?;
-    changes.push(RowChange::InsertPartNumber(PartNumber {
-        message: 1,
-        path,
-        kind,
-        body,
-    }))?;
-    Ok(())
-}
+// Records of a log, row by row: the table, the insertion, and the columns. A message without parts.
+const ALONE: &[u8] = b"\x03\0\0\0\0\0\0\0\0\x01\0\0\0\0\0\0\0\x09";
 
 // A leaf without fields.
-fn bare(alloc: Global) -> Result<Vec<RowChange>, Fail> {
-    let mut changes = alone(alloc)?;
-    let content = octets(alloc, b"hi")?;
-    changes.push(RowChange::InsertBodyPart(BodyPart {
-        id: 7,
-        digest: [0; 32],
-        content,
-    }))?;
-    push_part(alloc, &mut changes, b"", 0, 7)?;
-    Ok(changes)
-}
+const BARE: &[u8] = b"\x03\0\0\0\0\0\0\0\0\x01\0\0\0\0\0\0\0\x09\
+    \x08\0\0\0\0\0\0\0\0\x07eeeeeeeeeeeeeeeeeeeeeeeeeeeeeeee\0\0\0\x02hi\
+    \x09\0\0\0\0\0\0\0\0\x01\0\0\0\0\0\0\0\0\0\0\0\0\x07";
+
+// A multipart without parts, with a date field whose value has no row.
+const DATELESS: &[u8] = b"\x03\0\0\0\0\0\0\0\0\x01\0\0\0\0\0\0\0\x09\
+    \x09\0\0\0\0\0\0\0\0\x01\0\0\0\0\x02\0\0\0\0\0\0\0\0\
+    \x0a\0\0\0\0\0\0\0\0\x03\0\0\0\x04Date\
+    \x0b\0\0\0\0\0\0\0\0\x01\0\0\0\0\0\0\0\0\0\0\0\0\0\0\0\x03\x02\0\0\0\0";
+
+// The same, where the value has a row of 3 bytes.
+const SHORT_DATE: &[u8] = b"\x03\0\0\0\0\0\0\0\0\x01\0\0\0\0\0\0\0\x09\
+    \x09\0\0\0\0\0\0\0\0\x01\0\0\0\0\x02\0\0\0\0\0\0\0\0\
+    \x0a\0\0\0\0\0\0\0\0\x03\0\0\0\x04Date\
+    \x0b\0\0\0\0\0\0\0\0\x01\0\0\0\0\0\0\0\0\0\0\0\0\0\0\0\x03\x02\0\0\0\0\
+    \x0e\0\0\0\0\0\0\0\0\x01\0\0\0\0\0\0\0\0\0\0\0\x03Tue\0\0\0\0\0\0\0\0\0\0\0\0\0\0\0\0";
 
 // Messages within messages, so many, and no leaf.
-fn chain(alloc: Global, depth: usize) -> Result<Vec<RowChange>, Fail> {
-    let mut changes = alone(alloc)?;
+fn chain(alloc: Global, depth: usize) -> Result<Vec<u8>, Fail> {
+    let mut record = ALONE.to_vec(alloc)?;
     let mut path = Vec::new(alloc);
     for _ in 0..depth {
-        push_part(alloc, &mut changes, &path, 3, 0)?;
+        record.extend_from_slice(b"\x09\0\0\0\0\0\0\0\0\x01")?;
+        record.extend_from_slice(&u32::try_from(path.len()).unwrap_or(0).to_be_bytes())?;
+        record.extend_from_slice(&path)?;
+        record.extend_from_slice(b"\x03\0\0\0\0\0\0\0\0")?;
         path = path_of_child(alloc, &path, 0)?;
     }
-    Ok(changes)
-}
-
-// A multipart without parts, with a date field whose row of the value is missing.
-fn dateless(alloc: Global) -> Result<Vec<RowChange>, Fail> {
-    let mut changes = alone(alloc)?;
-    push_part(alloc, &mut changes, b"", 2, 0)?;
-    let name = octets(alloc, b"Date")?;
-    changes.push(RowChange::InsertFieldName(FieldName { id: 3, name }))?;
-    changes.push(RowChange::InsertHeaderField(HeaderField {
-        message: 1,
-        path: octets(alloc, b"")?,
-        place: 0,
-        name: 3,
-        form: 2,
-        value: octets(alloc, b"")?,
-    }))?;
-    Ok(changes)
-}
-
-// The same with a row of 3 bytes.
-fn short_date(alloc: Global) -> Result<Vec<RowChange>, Fail> {
-    let mut changes = dateless(alloc)?;
-    changes.push(RowChange::InsertDateField(DateField {
-        message: 1,
-        path: octets(alloc, b"")?,
-        place: 0,
-        value: octets(alloc, b"Tue")?,
-        seconds: 0,
-        day: 0,
-    }))?;
-    Ok(changes)
+    Ok(record)
 }
 
 // How many fields and how many bytes message 1 of a store has whose log was made by hand, once its tree was built.
-fn sizes(alloc: Global, changes: Vec<RowChange>) -> Result<(usize, usize), Fail> {
-    let mut store = store_of(alloc, &changes)?;
+fn sizes(alloc: Global, record: &[u8]) -> Result<(usize, usize), Fail> {
+    let mut store = store_of(alloc, record)?;
     sizes_in(alloc, &mut store)
 }
 
@@ -188,11 +139,11 @@ fn sizes_in(alloc: Global, store: &mut RowStore<MemoryDisk>) -> Result<(usize, u
 #[test]
 fn rows_of_no_mail_are_read(rt: HostRuntime) -> Result<(), Fail> {
     let alloc = rt.alloc();
-    assert_eq!(rt; sizes(alloc, alone(alloc)?)?.0, 0);
-    assert_eq!(rt; sizes(alloc, bare(alloc)?)?.0, 0);
-    assert_eq!(rt; sizes(alloc, dateless(alloc)?)?.0, 1);
-    assert_eq!(rt; sizes(alloc, short_date(alloc)?)?.0, 1);
-    let (fields, bytes) = sizes(alloc, chain(alloc, 1_000)?)?;
+    assert_eq!(rt; sizes(alloc, ALONE)?.0, 0);
+    assert_eq!(rt; sizes(alloc, BARE)?.0, 0);
+    assert_eq!(rt; sizes(alloc, DATELESS)?.0, 1);
+    assert_eq!(rt; sizes(alloc, SHORT_DATE)?.0, 1);
+    let (fields, bytes) = sizes(alloc, &chain(alloc, 1_000)?)?;
     assert_eq!(rt; fields, 0);
     assert!(rt; bytes < 300);
     Ok(())

@@ -4,9 +4,7 @@ ghost use Rattle.std.specs.Prelude.{◌≡◌, ◌≤◌, ◌^◌, false, [], le
 
 use disk_model::{Files, MemoryDisk};
 use mime_reader::read_or_wrap;
-use row_codec::encode;
 use row_store::RowStore;
-use row_tables::RowChange;
 use shredder::{law_mails_fit, rows_of};
 use std::alloc::Global;
 use std::test::Fail;
@@ -15,22 +13,21 @@ fn disk_with(alloc: Global, bytes: Vec<u8>) -> Result<MemoryDisk, Fail> {
     Ok(MemoryDisk::new(alloc, bytes, Vec::new(alloc))?)
 }
 
-// A log of one record, which has these changes.
-fn log_of(alloc: Global, changes: &[RowChange]) -> Result<Vec<u8>, Fail> {
-    let payload = encode(alloc, changes)?;
+// A log of this record.
+fn log_of(alloc: Global, record: &[u8]) -> Result<Vec<u8>, Fail> {
     let mut log = b"\x01MAILROW\0\0\0\0\0\0\0\0\x01\x01".to_vec(alloc)?;
-    log.extend_from_slice(&(payload.len() as u64).to_be_bytes())?;
-    log.extend_from_slice(&payload)?;
+    log.extend_from_slice(&(record.len() as u64).to_be_bytes())?;
+    log.extend_from_slice(record)?;
     log.push(0)?;
     Ok(log)
 }
 
-// The store that a log made by hand is, if these changes fit in turn.
-pub(crate) fn store_of(alloc: Global, changes: &[RowChange]) -> Result<RowStore<MemoryDisk>, Fail>
+// The store that a log made by hand is, whose one record has these bytes, if they are changes that fit in turn.
+pub(crate) fn store_of(alloc: Global, record: &[u8]) -> Result<RowStore<MemoryDisk>, Fail>
     ensures { IfOk result (λ store. (store.spent ≡ false) × (store.placed ≡ [])) }
 {
     let files = Files {
-        log0: disk_with(alloc, log_of(alloc, changes)?)?,
+        log0: disk_with(alloc, log_of(alloc, record)?)?,
         log1: disk_with(alloc, Vec::new(alloc))?,
         bodies: disk_with(alloc, Vec::new(alloc))?,
     };
