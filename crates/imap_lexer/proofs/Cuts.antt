@@ -1,12 +1,9 @@
 -- Where the first unit of some bytes ends, as bytes come.
-use Rattle.std.proofs.Common.{ℕ, ◌≡◌, ◌≤◌, nat_lt, nat_eq, cond, Bool, true, false, List, [], ◌∷◌, ◌++◌, Option, Some, None, length, refl, ap, sym, ◌∙◌, subst, append-nil, arith}
-use Rattle.std.proofs.lemmas.Bool.Decides.{nat_tests}
-use Rattle.std.specs.List.{ends_with}
+use Rattle.std.proofs.Common.{ℕ, ◌≡◌, List, [], ◌∷◌, ◌++◌, Option, Some, None, refl, ap, sym, ◌∙◌, subst, append-nil}
 use Rattle.imap_lexer.specs.declared.units.Form.{Form}
 use Rattle.imap_lexer.specs.declared.units.Fed.{Fed}
-use Rattle.imap_lexer.specs.declared.units.Fed.TheVariants.{More, Unit as Whole, LineTooLong}
 use Rattle.imap_lexer.specs.declared.units.Shown.{Shown}
-use Rattle.imap_lexer.specs.Units.{Cut, line_end, shown, ending, ended, first, shortest, unless_more, behind_byte}
+use Rattle.imap_lexer.specs.Units.{Cut, reading, shown, ending, ended, first, shortest, unless_more, behind_byte}
 
 -- what bytes show at their end, by the form
 abbrev pub ends : Form → List ℕ → Option Shown
@@ -116,17 +113,6 @@ pub fed-next : (form : Form) (bytes new : List ℕ) (byte : ℕ) (fed : Fed) →
     → first form new ≡ ended (ending fed) new
 fed-next form bytes new byte fed h is_new is_shown = rw (is_shown, is_new) (first-next form bytes byte h)
 
--- Bytes without a unit leave room for one more.
-no_room : (long more : Bool) → ending (cond long LineTooLong (cond more Whole More)) ≡ None → long ≡ false
-no_room true more h = absurd (cc)
-no_room false more h = refl
-
-short_shows : (form : Form) (bytes : List ℕ) → ending (shown form bytes) ≡ None → length bytes ≤ 8192
-unfolding shown
-short_shows form bytes h =
-    let no : nat_lt 8192 (length bytes) ≡ false = no_room (nat_lt 8192 (length bytes)) (ends_with nat_eq bytes line_end) h in
-    grind (arith, nat_tests, no)
-
 -- The first unit is the shortest prefix that is one.
 
 -- the cut, if there is one, shows what its unit does
@@ -205,7 +191,8 @@ pub first-none : (form : Form) (bytes : List ℕ) → first form bytes ≡ None 
 unfolding first
 first-none form bytes h = none_shows (ends form) bytes h
 
--- where there is no unit yet there is room for a byte more
-pub first-short : (form : Form) (bytes : List ℕ) → first form bytes ≡ None → length bytes ≤ 8192
-first-short form [] h = omega arith
-first-short form (c ∷ cs) h = short_shows form (c ∷ cs) (first-none form (c ∷ cs) h c cs [] (sym (append-nil (c ∷ cs))))
+-- where there is no unit yet, the bytes show none
+pub first-shows : (form : Form) (bytes : List ℕ) → first form bytes ≡ None → ending (shown form bytes) ≡ None
+unfolding reading
+first-shows form [] h = refl
+first-shows form (c ∷ cs) h = first-none form (c ∷ cs) h c cs [] (sym (append-nil (c ∷ cs)))

@@ -1,1 +1,4 @@
+mod Numbers
 pub mod Cuts
+mod Places
+mod Examples

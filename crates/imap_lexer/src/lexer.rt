@@ -1,11 +1,12 @@
 //! A reader of units that is fed byte by byte.
 
-ghost use Rattle.std.specs.Prelude.{◌≡◌, ◌≤◌, ◌++◌, ◌∷◌, [], IfOk, IsOk, None, vec_capacity};
+ghost use Rattle.std.specs.Prelude.{◌≡◌, ◌++◌, ◌∷◌, [], IfOk, OnOk, OnErr, None, vec_capacity};
 ghost use Rattle.imap_lexer.specs.declared.units.Form.TheVariants.{Command};
 ghost use Rattle.imap_lexer.specs.Units.{ended, ending, first, shown};
-ghost use Rattle.imap_lexer.specs.Lexer.{form_of};
+ghost use Rattle.imap_lexer.specs.Lexer.{IsInLiteral, IsPlaced, form_of};
 
-use crate::units::{Fed, shows};
+use crate::literals::read_line;
+use crate::units::Fed;
 use std::alloc::{AllocError, Global};
 use std::marker::Model;
 
@@ -14,10 +15,14 @@ use std::marker::Model;
 pub struct Lexer {
     bytes: Vec<u8>,
     plain: bool,
-    ghost room: { 8193 ≤ vec_capacity bytes },
+    // how many bytes the lines before the line so far have together
+    lines: usize,
+    // how many bytes of literals were announced together
+    literals: usize,
+    ghost placed: { IsPlaced (form_of plain) bytes.items lines literals (vec_capacity bytes) },
 }
 
-/// Room for the longest line and the byte that shows one to be too long.
+/// Room for the lines of a unit, and the byte that shows them to be too long.
 const ROOM: usize = 8193;
 
 impl Model for Lexer {
@@ -29,8 +34,8 @@ impl Model for Lexer {
 }
 
 impl Lexer {
-    /// Awaits a command. The memory for a line is taken here, and kept for all that follow.
-    #[tactic(auto, unfolding(crate::specs::Units::first))]
+    /// Awaits a command. The memory for lines is taken here, and kept for all that follow.
+    #[tactic(auto, unfolding(crate::specs::Units::first, crate::specs::Units::reading))]
     pub fn new(alloc: Global) -> Result<Lexer, AllocError>
         ensures empty { IfOk result (λ lexer. lexer ≡ record { form = Command; bytes = [] }) }
         ensures none { IfOk result (λ lexer. first lexer.form lexer.bytes ≡ None) }
@@ -38,28 +43,41 @@ impl Lexer {
         Ok(Lexer {
             bytes: Vec::with_capacity(alloc, ROOM)?,
             plain: false,
+            lines: 0,
+            literals: 0,
         })
     }
 
     /// Takes one byte, and tells what the bytes since the last unit show.
     ///
-    /// After `Fed::Unit` and `Fed::LineTooLong`, call `next` before more bytes.
+    /// After `Fed::Unit`, `Fed::LineTooLong` and `Fed::LiteralTooLong`, call `next` before more bytes.
     ///
-    /// Lines take no memory, so no call is refused any as long as there are no literals.
+    /// Lines take no memory. The bytes of literals do; where there is none, the byte is not taken, and may be fed again.
     pub fn feed(&mut self, byte: u8) -> Result<Fed, AllocError>
         requires { first self.old.form self.old.bytes ≡ None }
-        ensures fed { IfOk result (λ fed. self.new ≡ record { form = self.old.form; bytes = self.old.bytes ++ byte ∷ [] }) }
+        ensures fed { OnOk result (self.new ≡ record { form = self.old.form; bytes = self.old.bytes ++ byte ∷ [] }) }
         ensures shown { IfOk result (λ fed. fed ≡ shown self.new.form self.new.bytes) }
 
         // The unit is whole at its last byte, and not before.
         ensures cut { IfOk result (λ fed. first self.new.form self.new.bytes ≡ ended (ending fed) self.new.bytes) }
-        ensures taken { IsOk result }
+        ensures refused { OnErr result (IsInLiteral self.old) }
+        ensures unchanged { OnErr result (self.new ≡ self.old) }
     {
+        let begin = self.lines + self.literals;
+        if self.bytes.len() < begin {
+            self.bytes.reserve(ROOM + 1)?;
+            self.bytes.push(byte)?;
+            return Ok(Fed::More);
+        }
         self.bytes.push(byte)?;
-        Ok(shows(&self.bytes))
+        let read = read_line(self.plain, &self.bytes[begin..], self.lines, self.literals);
+        self.lines = read.lines;
+        self.literals = read.literals;
+        Ok(read.fed)
     }
 
-    /// The bytes since the last unit: after `Fed::Unit` the unit, with its CRLF; after `Fed::LineTooLong` 8,193 bytes.
+    /// The bytes since the last unit: after `Fed::Unit` the unit, with its CRLF; after `Fed::LineTooLong` and
+    /// `Fed::LiteralTooLong` the bytes up to the one that showed it.
     pub fn unit(&self) -> &[u8]
         ensures { result.now ≡ self.now.bytes }
     {
@@ -74,13 +92,18 @@ impl Lexer {
     }
 
     /// Drops the unit. The next one is a line without literals where `plain` is true, else a command.
-    #[tactic(auto, unfolding(crate::specs::Units::first))]
+    ///
+    /// Memory that literals took is given back.
+    #[tactic(auto, unfolding(crate::specs::Units::first, crate::specs::Units::reading))]
     pub fn next(&mut self, plain: bool)
         ensures dropped { self.new ≡ record { form = form_of plain; bytes = [] } }
         ensures none { first self.new.form self.new.bytes ≡ None }
     {
         self.bytes.clear();
+        self.bytes.shrink_to(ROOM);
         self.plain = plain;
+        self.lines = 0;
+        self.literals = 0;
     }
 }
 
@@ -89,30 +112,31 @@ mod tests {
     use super::*;
     use std::test::Fail;
 
-    // Feeds bytes, of which only the last completes a line.
-    fn is_one_line(rt: &HostRuntime, text: &[u8]) -> Result<bool, Fail> {
+    // Feeds bytes, of which only the last completes a command.
+    fn is_one_command(rt: &HostRuntime, text: &[u8]) -> Result<bool, Fail> {
         let mut lexer = Lexer::new(rt.alloc())?;
         'bytes: for byte in text {
             match lexer.feed(*byte)? {
                 Fed::More | Fed::Continue => {}
                 Fed::Unit => return Ok(lexer.unit() == text),
-                Fed::LineTooLong => return Ok(false),
+                Fed::LineTooLong | Fed::LiteralTooLong => return Ok(false),
             }
         }
         Ok(false)
     }
 
     #[test]
-    fn lines_end_with_crlf(rt: HostRuntime) -> Result<(), Fail> {
+    fn commands_end_with_crlf(rt: HostRuntime) -> Result<(), Fail> {
         for text in [
             b"\r\n".as_slice(),
             b"a NOOP\r\n",
             b"a\nb\r\n",
             b"a\rb\r\n",
             b"a\r\r\n",
-            b"\0\xff{5}\r\n",
+            b"\0\xff{5+}\r\n",
+            b"a {5}\r\n\r\nb\r\n\r\n",
         ] {
-            assert!(rt; is_one_line(&rt, text)?);
+            assert!(rt; is_one_command(&rt, text)?);
         }
         for text in [
             b"".as_slice(),
@@ -121,8 +145,10 @@ mod tests {
             b"a\n",
             b"a\n\r",
             b"a\r\nb\r\n",
+            b"\0\xff{5}\r\n",
+            b"a {5}\r\n\r\nb\r\n",
         ] {
-            assert!(rt; !is_one_line(&rt, text)?);
+            assert!(rt; !is_one_command(&rt, text)?);
         }
         Ok(())
     }

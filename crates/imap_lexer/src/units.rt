@@ -18,12 +18,15 @@ pub enum Form {
 pub enum Fed {
     /// The unit goes on.
     More,
-    /// The unit goes on once the peer is told so. No unit of today awaits that.
+    /// The unit goes on with a literal once the peer is told so: the bytes end with its announcement.
     Continue,
     /// The bytes are a whole unit.
     Unit,
-    /// The line has more bytes than one may have.
+    /// The lines have more bytes than they may have together.
     LineTooLong,
+    /// The bytes end with the announcement of a literal with which the literals have more bytes than they may have
+    /// together.
+    LiteralTooLong,
 }
 
 /// What a unit that is cut off shows.
@@ -31,8 +34,10 @@ pub enum Fed {
 pub enum Shown {
     /// It is whole.
     Unit,
-    /// It is a line that has more bytes than one may have.
+    /// It has lines of more bytes than they may have together.
     LineTooLong,
+    /// It announces literals of more bytes than they may have together.
+    LiteralTooLong,
 }
 
 impl Fed {
@@ -44,6 +49,7 @@ impl Fed {
             Fed::More | Fed::Continue => None,
             Fed::Unit => Some(Shown::Unit),
             Fed::LineTooLong => Some(Shown::LineTooLong),
+            Fed::LiteralTooLong => Some(Shown::LiteralTooLong),
         }
     }
 
@@ -53,24 +59,8 @@ impl Fed {
     {
         match self {
             Fed::Continue => true,
-            Fed::More | Fed::Unit | Fed::LineTooLong => false,
+            Fed::More | Fed::Unit | Fed::LineTooLong | Fed::LiteralTooLong => false,
         }
-    }
-}
-
-/// How many bytes a line may have, with its CRLF.
-const LINE_LIMIT: usize = 8192;
-
-/// What the bytes since the last unit show.
-pub fn shows(bytes: &[u8]) -> Fed
-    ensures { (form : Form) → result ≡ shown form bytes.now }
-{
-    if bytes.len() > LINE_LIMIT {
-        Fed::LineTooLong
-    } else if bytes.ends_with(b"\r\n") {
-        Fed::Unit
-    } else {
-        Fed::More
     }
 }
 

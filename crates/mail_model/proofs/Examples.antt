@@ -4,8 +4,8 @@ use Rattle.std.specs.List.{range_with_len}
 use Rattle.port_model.specs.History.{Opened, Piece, Ended}
 use Rattle.port_model.specs.declared.calls.Kind.TheVariants.{Imap, Lmtp}
 use Rattle.imap_lexer.specs.declared.units.Form.{Form}
-use Rattle.imap_lexer.specs.declared.units.Shown.TheVariants.{Unit as Whole, LineTooLong}
-use Rattle.imap_lexer.specs.Units.{first, shown}
+use Rattle.imap_lexer.specs.declared.units.Shown.TheVariants.{Unit as Whole, LineTooLong, LiteralTooLong}
+use Rattle.imap_lexer.specs.Units.{first, reading}
 use Rattle.mail_model.specs.Commands.{Capability, Noop, Logout, Tagged, BadTagged, BadUntagged, is_atom_byte, is_tag_byte, parsed}
 use Rattle.mail_model.specs.Step.{Shared, World, left_by, step, greeting}
 use Rattle.mail_model.specs.Machine.{machine, take_byte}
@@ -48,6 +48,14 @@ closing_answers : (shared : Shared) (number : ℕ) (form : Form) (moment : ℕ)
 unfolding step parsed
 closing_answers shared number form moment = (refl, refl, refl, refl)
 
+-- Too long a literal is refused by the unit's tag, and the session goes on.
+literals_refused : (shared : Shared) (number : ℕ) (form : Form) (moment : ℕ)
+    → ((step shared number form LiteralTooLong (codes "a APPEND x {33554433}\r\n") moment).answer ≡ codes "a NO literal too long\r\n")
+    × ((step shared number form LiteralTooLong (codes "a {33554433}\r\n") moment).closes ≡ false)
+    × ((step shared number form LiteralTooLong (codes "{33554433}\r\n") moment).answer ≡ codes "* BAD syntax\r\n")
+unfolding step parsed
+literals_refused shared number form moment = (refl, refl, refl)
+
 -- The 65th session at once is one too many.
 too_many : (shared : Shared)
     → ((greeting shared 65 Imap 64).answer ≡ codes "* BYE too many sessions\r\n") × ((greeting shared 65 Imap 64).closes ≡ true) × ((greeting shared 65 Imap 63).answer ≡ codes "* OK IMAP4rev1 ready\r\n")
@@ -57,18 +65,26 @@ too_many shared = (refl, refl, refl)
 -- Two pieces that cut a command, then a line that is none, then a line that isn't whole; the newest event is first.
 session : (world : World)
     → (machine world (Piece 1 (codes "OP\r\nNOOP\r\nb NO") 20 ∷ Piece 1 (codes "a NO") 10 ∷ Opened 1 Imap ∷ [])).out 1 ≡ codes "* OK IMAP4rev1 ready\r\na OK NOOP completed\r\n* BAD syntax\r\n"
-unfolding machine take_byte left_by first shown step greeting parsed
+unfolding machine take_byte left_by first reading step greeting parsed
 session world = refl
 
 -- A link of another protocol is told so, and what comes by it after that is not served.
 refused : (world : World)
     → (machine world (Piece 1 (codes "a NOOP\r\n") 10 ∷ Opened 1 Lmtp ∷ [])).out 1 ≡ codes "421 4.3.2 LMTP is not served\r\n"
-unfolding machine take_byte left_by first shown step greeting parsed
+unfolding machine take_byte left_by first reading step greeting parsed
 refused world = refl
 
 -- What stands behind LOGOUT is dropped, and the end of a session that is closing changes nothing.
 logged_out : (world : World)
     → (machine world (Piece 1 (codes "c NOOP\r\n") 11 ∷ Ended 1 ∷ Piece 1 (codes "a LOGOUT\r\nb NOOP\r\n") 10 ∷ Opened 1 Imap ∷ [])).out 1
     ≡ codes "* OK IMAP4rev1 ready\r\n* BYE logging out\r\na OK LOGOUT completed\r\n"
-unfolding machine take_byte left_by first shown step greeting parsed
+unfolding machine take_byte left_by first reading step greeting parsed
 logged_out world = refl
+
+-- The peer is told to go on at each announcement. A literal may hold what looks like commands: they are part of it, and its
+-- line goes on behind it.
+literals : (world : World)
+    → (machine world (Piece 1 (codes "b NOOP\r\n{0}\r\n\r\nc NOOP\r\n") 12 ∷ Piece 1 (codes "a X {8}\r\n") 10 ∷ Opened 1 Imap ∷ [])).out 1
+    ≡ codes "* OK IMAP4rev1 ready\r\n+ go ahead\r\n+ go ahead\r\na BAD syntax\r\nc OK NOOP completed\r\n"
+unfolding machine take_byte left_by first reading step greeting parsed
+literals world = refl

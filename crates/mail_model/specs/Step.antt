@@ -6,7 +6,7 @@ use Rattle.port_model.specs.declared.calls.Kind.TheVariants.{Imap, Lmtp}
 use Rattle.imap_lexer.specs.declared.units.Form.{Form}
 use Rattle.imap_lexer.specs.declared.units.Form.TheVariants.{Command as AwaitsCommand}
 use Rattle.imap_lexer.specs.declared.units.Shown.{Shown}
-use Rattle.imap_lexer.specs.declared.units.Shown.TheVariants.{Unit as Whole, LineTooLong}
+use Rattle.imap_lexer.specs.declared.units.Shown.TheVariants.{Unit as Whole, LineTooLong, LiteralTooLong}
 use Rattle.mail_model.specs.declared.session_part.SessionPart.{SessionPart}
 use Rattle.mail_model.specs.Commands.{Capability, Noop, Logout, Parsed, Tagged, BadTagged, BadUntagged, parsed, crlf}
 
@@ -87,9 +87,17 @@ executed shared (Tagged tag Logout) = answered_last shared (bye (codes "logging 
 executed shared (BadTagged tag) = answered shared (bad_syntax tag)
 executed shared BadUntagged = answered shared (bad_syntax (codes "*"))
 
+-- The line of a command that announces literals of more bytes than they may have together: it is done no further. Where it
+-- has no tag, it is no command.
+abbrev pub literal_refused : Parsed → List ℕ
+literal_refused (Tagged tag command) = tag ++ codes " NO literal too long" ++ crlf
+literal_refused (BadTagged tag) = tag ++ codes " NO literal too long" ++ crlf
+literal_refused BadUntagged = bad_syntax (codes "*")
+
 -- what a unit does, by what it shows
 abbrev pub shown_step : Shared → Shown → List ℕ → Stepped
 shown_step shared LineTooLong unit = answered_last shared (bye (codes "line too long"))
+shown_step shared LiteralTooLong unit = answered shared (literal_refused (parsed unit))
 shown_step shared Whole unit = executed shared (parsed unit)
 
 -- What a unit of the session of a number does, with the form in which it was awaited, what it shows, and the moment

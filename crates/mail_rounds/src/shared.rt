@@ -1,7 +1,7 @@
 //! What the sessions share, and what a unit does to it.
 
-ghost use Rattle.std.specs.Prelude.{ℕ, ◌≡◌, ◌<◌, [], OnOk, IfOk};
-ghost use Rattle.mail_model.specs.Step.{World, executed, step, greeting, left_by, Shared};
+ghost use Rattle.std.specs.Prelude.{ℕ, ◌≡◌, ◌<◌, ◌++◌, [], OnOk, IfOk};
+ghost use Rattle.mail_model.specs.Step.{World, executed, literal_refused, step, greeting, left_by, Shared};
 ghost use Rattle.mail_rounds.specs.Core.{IsShared, IsExecuted, IsStep};
 ghost use Rattle.mail_model.specs.Commands.{Tagged};
 ghost use Rattle.mail_rounds.specs.Commands.{meaning, command_meaning};
@@ -76,6 +76,18 @@ fn answer_unit(parsed: Parsed<'_>, answer: &mut Vec<u8>) -> Result<bool, AllocEr
     }
 }
 
+/// Adds the answer to a unit that announces too long a literal.
+fn refuse_literal(parsed: Parsed<'_>, answer: &mut Vec<u8>) -> Result<(), AllocError>
+    ensures { OnOk result (answer.new.items ≡ answer.old.items ++ literal_refused (meaning parsed.entry)) }
+{
+    match parsed {
+        Parsed::Tagged(tag, _) | Parsed::BadTagged(tag) => {
+            add_line(answer, tag, b" NO literal too long\r\n")
+        }
+        Parsed::BadUntagged => add_line(answer, b"*", b" BAD syntax\r\n"),
+    }
+}
+
 impl Core {
     /// No mail and no session.
     #[tactic(auto, unfolding(crate::specs::Core::IsShared))]
@@ -106,6 +118,10 @@ impl Core {
             Shown::LineTooLong => {
                 answer.extend_from_slice(b"* BYE line too long\r\n")?;
                 true
+            }
+            Shown::LiteralTooLong => {
+                refuse_literal(parse(unit), answer)?;
+                false
             }
         };
         Ok(Outcome {

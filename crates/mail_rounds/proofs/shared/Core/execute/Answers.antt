@@ -1,9 +1,9 @@
-use Rattle.std.proofs.Common.{ℕ, Bool, true, List, sym, subst, refl}
+use Rattle.std.proofs.Common.{ℕ, ◌++◌, Bool, true, false, List, ap, sym, ◌∙◌, subst, refl}
 use Rattle.imap_lexer.specs.declared.units.Shown.{Shown}
 use Rattle.imap_lexer.specs.declared.units.Form.TheVariants.{Command as AwaitsCommand}
 use Rattle.mail_model.specs.Commands as model
 use Rattle.mail_model.specs.Commands.{parsed}
-use Rattle.mail_model.specs.Step.{executed, shown_step, step, Shared}
+use Rattle.mail_model.specs.Step.{executed, literal_refused, shown_step, step, Shared}
 use Rattle.mail_rounds.specs.declared.shared.Core.{Core}
 use Rattle.mail_rounds.specs.Core.{IsShared, IsExecuted, IsStep}
 use Rattle.mail_rounds.proofs.shared.Core.execute.Goals as goal
@@ -33,3 +33,14 @@ unfolding step
 returns-in_ok-extend_from_slice-in-LineTooLong c = λ shared held.
     subst (λ (shows : Shown). IsStep c.args.self.now c.args.answer.now.items c.extend_from_slice.new.self.items true AwaitsCommand shared (shown_step shared shows c.args.unit.now)) (sym c.in-LineTooLong.is)
     (record { stands = stands c.args.self.now shared held; answer = c.in_ok-extend_from_slice-in-LineTooLong.ensures.items; closing = refl; form = refl })
+
+pub returns-in_ok-refuse_literal-in-LiteralTooLong : goal.returns-in_ok-refuse_literal-in-LiteralTooLong
+unfolding step
+returns-in_ok-refuse_literal-in-LiteralTooLong c = λ shared held.
+    subst (λ (shows : Shown). IsStep c.args.self.now c.args.answer.now.items c.refuse_literal.new.answer.items false AwaitsCommand shared (shown_step shared shows c.args.unit.now)) (sym c.in-LiteralTooLong.is)
+    (record {
+      stands = stands c.args.self.now shared held;
+      answer = c.in_ok-refuse_literal-in-LiteralTooLong.ensures ∙ ap (λ (read : model.Parsed). c.args.answer.now.items ++ literal_refused read) c.parse-in-LiteralTooLong.ensures;
+      closing = refl;
+      form = refl;
+    })
