@@ -114,6 +114,7 @@ pub(crate) fn hear<P: Ports>(
     requires { length buffer.old ≡ read_room }
     ensures plan { P.plan ports.new ≡ P.plan ports.old }
     ensures counts { NeverFall (P.listen_faults ports.old) (P.link_faults ports.old) (P.listen_faults ports.new) (P.link_faults ports.new) }
+    ensures quiet { P.listen_faults ports.new ≡ P.listen_faults ports.old }
     ensures calls { Asks link.old (P.history ports.old) (P.history ports.new) }
     ensures hears { OnOk result (Grows (Hears core.old link.old core.new link.new) (P.history ports.old) (P.history ports.new)) }
     ensures number { link.new.number ≡ link.old.number }

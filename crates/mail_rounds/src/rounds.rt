@@ -167,6 +167,7 @@ impl<D> Server<D> {
         requires { i < length self.old.links.items }
         ensures plan { P.plan ports.new ≡ P.plan ports.old }
         ensures counts { NeverFall (P.listen_faults ports.old) (P.link_faults ports.old) (P.listen_faults ports.new) (P.link_faults ports.new) }
+        ensures quiet { P.listen_faults ports.new ≡ P.listen_faults ports.old }
         ensures calls { IfSome (slice_get self.old.links.items i) (λ link. Offers link (P.history ports.old) (P.history ports.new)) }
         ensures keeps { Keeps (P.history ports.old) (held self.old) (P.history ports.new) (held self.new) }
         ensures others { (k : ℕ) → k ≢ i → slice_get self.new.links.items k ≡ slice_get self.old.links.items k }
@@ -182,6 +183,7 @@ impl<D> Server<D> {
     fn offer_all<P: Ports>(&mut self, ports: &mut P)
         ensures plan { P.plan ports.new ≡ P.plan ports.old }
         ensures counts { NeverFall (P.listen_faults ports.old) (P.link_faults ports.old) (P.listen_faults ports.new) (P.link_faults ports.new) }
+        ensures quiet { P.listen_faults ports.new ≡ P.listen_faults ports.old }
         ensures calls { Chain Offers self.old.links.items (P.history ports.old) (P.history ports.new) }
         ensures keeps { Keeps (P.history ports.old) (held self.old) (P.history ports.new) (held self.new) }
         ensures files { self.new.files ≡ self.old.files }
@@ -197,6 +199,7 @@ impl<D> Server<D> {
         requires { i < length self.old.links.items }
         ensures plan { P.plan ports.new ≡ P.plan ports.old }
         ensures counts { NeverFall (P.listen_faults ports.old) (P.link_faults ports.old) (P.listen_faults ports.new) (P.link_faults ports.new) }
+        ensures quiet { P.listen_faults ports.new ≡ P.listen_faults ports.old }
         ensures calls { IfSome (slice_get self.old.links.items i) (λ link. Closes link (P.history ports.old) (P.history ports.new)) }
         ensures keeps { Keeps (P.history ports.old) (held self.old) (P.history ports.new) (held self.new) }
         ensures rest { drop result self.new.links.items ≡ drop (i + 1) self.old.links.items }
@@ -224,6 +227,7 @@ impl<D> Server<D> {
     fn close_all<P: Ports>(&mut self, ports: &mut P)
         ensures plan { P.plan ports.new ≡ P.plan ports.old }
         ensures counts { NeverFall (P.listen_faults ports.old) (P.link_faults ports.old) (P.listen_faults ports.new) (P.link_faults ports.new) }
+        ensures quiet { P.listen_faults ports.new ≡ P.listen_faults ports.old }
         ensures calls { Chain Closes self.old.links.items (P.history ports.old) (P.history ports.new) }
         ensures keeps { Keeps (P.history ports.old) (held self.old) (P.history ports.new) (held self.new) }
         ensures files { self.new.files ≡ self.old.files }
@@ -241,6 +245,7 @@ impl<D> Server<D> {
         requires { self.old.spent ≡ false }
         ensures plan { P.plan ports.new ≡ P.plan ports.old }
         ensures counts { NeverFall (P.listen_faults ports.old) (P.link_faults ports.old) (P.listen_faults ports.new) (P.link_faults ports.new) }
+        ensures quiet { P.listen_faults ports.new ≡ P.listen_faults ports.old }
         ensures calls { FlushCalls (held self.old) (P.history ports.old) (P.history ports.new) }
         ensures keeps { Keeps (P.history ports.old) (held self.old) (P.history ports.new) (held self.new) }
         ensures files { self.new.files ≡ self.old.files }
@@ -282,6 +287,7 @@ impl<D> Server<D> {
         ensures keeps { OnOk result (Keeps (P.history ports.old) (held self.old) (P.history ports.new) (held self.new)) }
         ensures front { OnOk result (take (length self.old.links.items) self.new.links.items ≡ self.old.links.items) }
         ensures listen { IsErrOf result RoundFault.ListenFault → Rose (P.listen_faults ports.old) (P.listen_faults ports.new) }
+        ensures quiet { (IsErrOf result RoundFault.ListenFault → ⊥) → P.listen_faults ports.new ≡ P.listen_faults ports.old }
         ensures files { self.new.files ≡ self.old.files }
         ensures spent { self.new.spent ≡ self.old.spent }
     {
@@ -301,6 +307,7 @@ impl<D> Server<D> {
         requires { i < length self.old.links.items }
         ensures plan { P.plan ports.new ≡ P.plan ports.old }
         ensures counts { NeverFall (P.listen_faults ports.old) (P.link_faults ports.old) (P.listen_faults ports.new) (P.link_faults ports.new) }
+        ensures quiet { P.listen_faults ports.new ≡ P.listen_faults ports.old }
         ensures calls { IfSome (slice_get self.old.links.items i) (λ link. Asks link (P.history ports.old) (P.history ports.new)) }
         ensures keeps { OnOk result (Keeps (P.history ports.old) (held self.old) (P.history ports.new) (held self.new)) }
         ensures others { (k : ℕ) → k ≢ i → slice_get self.new.links.items k ≡ slice_get self.old.links.items k }
@@ -316,6 +323,7 @@ impl<D> Server<D> {
         requires { count ≤ length self.old.links.items }
         ensures plan { P.plan ports.new ≡ P.plan ports.old }
         ensures counts { NeverFall (P.listen_faults ports.old) (P.link_faults ports.old) (P.listen_faults ports.new) (P.link_faults ports.new) }
+        ensures quiet { P.listen_faults ports.new ≡ P.listen_faults ports.old }
         ensures calls { OnOk result (Chain Asks (take count self.old.links.items) (P.history ports.old) (P.history ports.new)) }
         ensures part { ((asked : ℕ) × (asked ≤ count) × Chain Asks (take asked self.old.links.items) (P.history ports.old) (P.history ports.new)) }
         ensures keeps { OnOk result (Keeps (P.history ports.old) (held self.old) (P.history ports.new) (held self.new)) }
@@ -336,6 +344,7 @@ impl<D> Server<D> {
         ensures part { ((asked : ℕ) × TakesCalls asked (held self.old) (P.history ports.old) (P.history ports.new)) }
         ensures keeps { OnOk result (Keeps (P.history ports.old) (held self.old) (P.history ports.new) (held self.new)) }
         ensures listen { IsErrOf result RoundFault.ListenFault → Rose (P.listen_faults ports.old) (P.listen_faults ports.new) }
+        ensures quiet { (IsErrOf result RoundFault.ListenFault → ⊥) → P.listen_faults ports.new ≡ P.listen_faults ports.old }
         ensures files { self.new.files ≡ self.old.files }
         ensures spent { self.new.spent ≡ self.old.spent }
     {
@@ -357,6 +366,7 @@ impl<D> Server<D> {
         ensures part { ((asked : ℕ) × TakesCalls asked (held self.old) (P.history ports.old) (P.history ports.new)) }
         ensures keeps { OnOk result (Keeps (P.history ports.old) (held self.old) (P.history ports.new) (held self.new)) }
         ensures listen { IsErrOf result RoundFault.ListenFault → Rose (P.listen_faults ports.old) (P.listen_faults ports.new) }
+        ensures quiet { (IsErrOf result RoundFault.ListenFault → ⊥) → P.listen_faults ports.new ≡ P.listen_faults ports.old }
         ensures files { self.new.files ≡ self.old.files }
         ensures spent { self.new.spent ≡ is_err result }
     {
@@ -376,6 +386,7 @@ impl<D> Server<D> {
         ensures part { RoundPart (held self.old) (P.history ports.old) (P.history ports.new) }
         ensures keeps { OnOk result (Keeps (P.history ports.old) (held self.old) (P.history ports.new) (held self.new)) }
         ensures listen { IsErrOf result RoundFault.ListenFault → Rose (P.listen_faults ports.old) (P.listen_faults ports.new) }
+        ensures quiet { (IsErrOf result RoundFault.ListenFault → ⊥) → P.listen_faults ports.new ≡ P.listen_faults ports.old }
         ensures files { self.new.files ≡ self.old.files }
         ensures spent { self.new.spent ≡ is_err result }
     {

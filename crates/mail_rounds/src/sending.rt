@@ -24,6 +24,7 @@ fn drop_front(queue: &mut Vec<u8>, count: usize)
 pub(crate) fn offer<P: Ports>(core: &mut Core, link: &mut Link, ports: &mut P)
     ensures plan { P.plan ports.new ≡ P.plan ports.old }
     ensures counts { NeverFall (P.listen_faults ports.old) (P.link_faults ports.old) (P.listen_faults ports.new) (P.link_faults ports.new) }
+    ensures quiet { P.listen_faults ports.new ≡ P.listen_faults ports.old }
     ensures calls { Offers link.old (P.history ports.old) (P.history ports.new) }
     ensures offered { Grows (Offered core.old link.old core.new link.new) (P.history ports.old) (P.history ports.new) }
     ensures number { link.new.number ≡ link.old.number }

@@ -12,6 +12,7 @@ asks-preserved g c =
     record {
       plan = step.plan ∙ so_far.plan;
       counts = never_falls _ _ _ _ _ _ so_far.counts step.counts;
+      quiet = step.quiet ∙ so_far.quiet;
       calls = chain_more Asks c.args.self.now.links.items c.asks.i (slice_get c.asks.self.links.items c.asks.i) _ _ _ so_far.calls within
           (sym (so_far.others c.asks.i (omega arith))) step.calls;
       keeps = λ first serving. step.keeps first (so_far.keeps first serving);

@@ -12,6 +12,7 @@ abbrev pub invariant-asks : goal.invariant-asks
 invariant-asks g l = record {
   plan : g.P.Ports.plan l.ports ≡ g.P.Ports.plan l.fn.ports;
   counts : NeverFall (g.P.Ports.listen_faults l.fn.ports) (g.P.Ports.link_faults l.fn.ports) (g.P.Ports.listen_faults l.ports) (g.P.Ports.link_faults l.ports);
+  quiet : g.P.Ports.listen_faults l.ports ≡ g.P.Ports.listen_faults l.fn.ports;
   calls : Chain Asks (take l.i l.fn.self.links.items) (g.P.Ports.history l.fn.ports) (g.P.Ports.history l.ports);
   keeps : Keeps (g.P.Ports.history l.fn.ports) (held l.fn.self) (g.P.Ports.history l.ports) (held l.self);
   others : (k : ℕ) → l.i ≤ k → slice_get l.self.links.items k ≡ slice_get l.fn.self.links.items k;

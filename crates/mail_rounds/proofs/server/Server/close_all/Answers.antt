@@ -16,6 +16,7 @@ closing-preserved g c =
     record {
       plan = step.plan ∙ so_far.plan;
       counts = never_falls _ _ _ _ _ _ so_far.counts step.counts;
+      quiet = step.quiet ∙ so_far.quiet;
       within = step.within.0;
       fewer = omega (arith, step.within.1);
       rest = step.rest ∙ rest-more c.closing.self.links.items c.args.self.now.links.items c.closing.i looked so_far.rest ∙ ap (λ (k : ℕ). drop k c.args.self.now.links.items) one_more;

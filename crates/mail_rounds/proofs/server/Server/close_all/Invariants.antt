@@ -11,6 +11,7 @@ abbrev pub invariant-closing : goal.invariant-closing
 invariant-closing g l = record {
   plan : g.P.Ports.plan l.ports ≡ g.P.Ports.plan l.fn.ports;
   counts : NeverFall (g.P.Ports.listen_faults l.fn.ports) (g.P.Ports.link_faults l.fn.ports) (g.P.Ports.listen_faults l.ports) (g.P.Ports.link_faults l.ports);
+  quiet : g.P.Ports.listen_faults l.ports ≡ g.P.Ports.listen_faults l.fn.ports;
   within : l.i ≤ length l.self.links.items;
   fewer : length l.self.links.items ≤ length l.fn.self.links.items;
   rest : drop l.i l.self.links.items ≡ drop (l.i + (length l.fn.self.links.items - length l.self.links.items)) l.fn.self.links.items;
