@@ -3,6 +3,7 @@ use Rattle.std.proofs.Common.{◌≡◌, ◌≤◌, ◌+◌, ℕ, List, [], ◌�
 use Rattle.std.specs.Prelude.{◌⊎◌, Option, Some, None}
 use Rattle.fault_counts.specs.Rose.{Rose}
 use Rattle.disk_model.specs.Told.{Told, IfTold}
+use Rattle.disk_model.specs.Images.{Torn}
 use Rattle.disk_model.specs.declared.disk.Files.{Files}
 use Rattle.row_tables.specs.TableRows.{TableRows}
 use Rattle.admin_texts.specs.Listing.{listing_of}
@@ -11,13 +12,13 @@ use Rattle.row_store.specs.declared.faults.LoadFault.TheVariants.{Failed as Load
 use Rattle.row_store.specs.declared.loading.Unloaded.{Unloaded}
 use Rattle.row_store.specs.ThreeFiles.{FileBytes, IfRead, FaultRose, CountsNoFault, TellsFaults, KeepsDisks, ReadsNothing, MakesSure, MakesAllSure}
 use Rattle.row_store.specs.OpenLog.{LeavesOthers}
-use Rattle.row_store.specs.Holding.{HoldsNone, content_in, stored, nothing_stored}
+use Rattle.row_store.specs.Holding.{Holds, HoldsNone, content_in, stored, nothing_stored}
 use Rattle.row_store.specs.Crashes.{IsSettled, JointlyHolds}
 use Rattle.row_store.specs.Loading.{IsNoStore, ReadsLogOnce}
 use Rattle.mail_server.specs.declared.status.Status.{Status}
 use Rattle.mail_server.specs.declared.status.Status.TheVariants.{Done, NoMemory, StoreFault, NotAStore, Refused}
 use Rattle.mail_server.specs.Outside.{EndsWriting}
-use Rattle.mail_server.specs.Stores.{HoldsTables, HoldsSome, MakesStore, InitEnds, ListsTables, TablesEnds, store_exists}
+use Rattle.mail_server.specs.Stores.{HoldsTables, HoldsSome, TearsHead, MakesStore, InitEnds, ListsTables, TablesEnds, store_exists}
 
 rose-later : (a b c : ℕ) → a ≤ b → Rose b c → Rose a c
 rose-later a b c le rose = omega (arith, le, rose)
@@ -66,23 +67,50 @@ reads-once told old mid new once nothing = record {
   bodies = nothing.2 ∙ once.bodies;
 }
 
+-- bytes of which none are torn
+whole : (bytes : List ℕ) → Torn 0 18 bytes bytes
+whole bytes = record { kept = λ place within outside. refl; no_shorter = omega arith; no_longer = omega arith }
+
+-- a log that was only made sure of
+sure-head : {D : Type 0} (told : Told D) (old new : D) → MakesSure told old new → TearsHead told old new
+sure-head told old new sure = record {
+  later = sure.leaves.later;
+  each = λ image left. (image, sure.leaves.each image left, whole image);
+  before = λ since image from left. elim (sure.leaves.before since image from left) [ inl was ↦ inl was | inr is ↦ inr (image, is, whole image) ];
+}
+
+-- and one that was written after that
+torn-head : {D : Type 0} (told : Told D) (old mid new : D) → MakesSure told old mid → TearsHead told mid new → TearsHead told old new
+torn-head told old mid new sure torn = record {
+  later = omega (arith, sure.leaves.later, torn.later);
+  each = λ image left. elim (torn.before (told.moment old) image sure.leaves.later left) [
+    | inl was ↦ (image, sure.leaves.each image was, whole image)
+    | inr is ↦ (is.0, sure.images is.0 is.1, is.2)
+  ];
+  before = λ since image from left. elim (torn.before since image (omega (arith, from, sure.leaves.later)) left) [
+    | inl was ↦ elim (sure.leaves.before since image from was) [ inl had ↦ inl had | inr has ↦ inr (image, has, whole image) ]
+    | inr is ↦ inr (is.0, sure.images is.0 is.1, is.2)
+  ];
+}
+
 -- A store was loaded, so none is made.
 pub refused : {K D : Type 0} (written : K → Option (List ℕ)) (faults : K → ℕ) (told : Told D) (old new : Files D) (tables : TableRows) (status : Status) (before after : K)
     → MakesAllSure told old new → ReadsLogOnce told old new → CountsNoFault told old new → IsSettled told new (stored tables)
     → EndsWriting written faults Refused store_exists status before after → MakesStore written faults told status before after old new
 refused written faults told old new tables status before after sure reads quiet settled how = record {
   ends = elim how [
-    | inl done ↦ subst (λ (s : Status). InitEnds written faults told s before after old new) (sym done.0) (some, quiet, done.1)
-    | inr stops ↦ subst (λ (s : Status). InitEnds written faults told s before after old new) (sym stops.0) (some, quiet, stops.1)
+    | inl done ↦ subst (λ (s : Status). InitEnds written faults told s before after old new) (sym done.0) (some, sure, quiet, done.1)
+    | inr stops ↦ subst (λ (s : Status). InitEnds written faults told s before after old new) (sym stops.0) (some, sure, quiet, stops.1)
   ];
   kept = always (told.reading old.log0) (told.reading old.log1) (told.reading old.bodies) (λ bytes. HoldsSome bytes → MakesAllSure told old new) (λ bytes some. sure);
+  log0 = sure-head told old.log0 new.log0 sure.0;
   log1 = sure.1;
   bodies = sure.2;
   reads = reads;
 }
   where
     some : IfRead told old HoldsSome
-    some = read-before told old new (λ bytes. HoldsTables bytes tables) HoldsSome sure (λ bytes holds. (tables, holds)) settled.holds
+    some = read-before told old new (λ bytes. Holds bytes tables (content_in tables)) HoldsSome sure (λ bytes holds. (tables, (content_in tables, holds))) settled.holds
 
 -- Files could not be loaded, and hold a store afterwards only where they held none.
 pub made : {K D : Type 0} (written : K → Option (List ℕ)) (faults : K → ℕ) (told : Told D) (old new : Files D) (unloaded : Unloaded D) (status : Status) (sink : K)
@@ -92,7 +120,7 @@ pub made : {K D : Type 0} (written : K → Option (List ℕ)) (faults : K → �
     → (status ≡ Done) ⊎ ((status ≡ NoMemory) ⊎ (status ≡ StoreFault))
     → (status ≡ NoMemory → (unloaded.fault ≡ LoadFailed → ⊥) × (new ≡ unloaded.files))
     → (status ≡ StoreFault → ((unloaded.fault ≡ LoadFailed) × (new ≡ unloaded.files)) ⊎ FaultRose told unloaded.files new)
-    → (unloaded.fault ≡ LoadNotAStore) ⊎ (new ≡ unloaded.files) → LeavesOthers unloaded.files new → ReadsNothing told unloaded.files new
+    → ((unloaded.fault ≡ LoadNotAStore) × TearsHead told unloaded.files.log0 new.log0) ⊎ (new ≡ unloaded.files) → LeavesOthers unloaded.files new → ReadsNothing told unloaded.files new
     → MakesStore written faults told status sink sink old new
 made {D = D} written faults told old new unloaded status sink sure reads tells none done how memory fault left others nothing = record {
   ends = elim how [
@@ -102,12 +130,20 @@ made {D = D} written faults told old new unloaded status sink sure reads tells n
       counts-both told old unloaded.files new (tells.quiet (λ f. cc (f, (done e).0))) (done e).2,
       refl,
     )
-    | inr (inl e) ↦ subst Ends (sym e) (subst (λ (files : Files D). CountsNoFault told old files) (sym (memory e).1) (tells.quiet (memory e).0), refl)
+    | inr (inl e) ↦ subst Ends (sym e) (
+      subst (λ (files : Files D). MakesAllSure told old files) (sym (memory e).1) sure,
+      subst (λ (files : Files D). CountsNoFault told old files) (sym (memory e).1) (tells.quiet (memory e).0),
+      refl,
+    )
     | inr (inr e) ↦ subst Ends (sym e) (rose (fault e), refl)
   ];
   kept = elim left [
-    | inl is ↦ read-before told old unloaded.files HoldsNone Kept sure (λ bytes no some. absurd (no some.0 (content_in some.0) some.1)) (none is).none
+    | inl is ↦ read-before told old unloaded.files HoldsNone Kept sure (λ bytes no some. absurd (no some.0 some.1.0 some.1.1)) (none is.0).none
     | inr same ↦ always (told.reading old.log0) (told.reading old.log1) (told.reading old.bodies) Kept (λ bytes some. subst (λ (files : Files D). MakesAllSure told old files) (sym same) sure)
+  ];
+  log0 = elim left [
+    | inl is ↦ torn-head told old.log0 unloaded.files.log0 new.log0 sure.0 is.1
+    | inr same ↦ subst (λ (files : Files D). TearsHead told old.log0 files.log0) (sym same) (sure-head told old.log0 unloaded.files.log0 sure.0)
   ];
   log1 = subst (λ (disk : D). MakesSure told old.log1 disk) (sym others.0) sure.1;
   bodies = subst (λ (disk : D). MakesSure told old.bodies disk) (sym others.1) sure.2;
@@ -146,7 +182,7 @@ listed written faults told old new tables status before after sure reads quiet s
     Ends s = TablesEnds written faults told s before after old new
 
     holds : IfRead told old (λ bytes. HoldsTables bytes tables)
-    holds = read-before told old new (λ bytes. HoldsTables bytes tables) (λ bytes. HoldsTables bytes tables) sure (λ bytes holds. holds) settled.holds
+    holds = read-before told old new (λ bytes. Holds bytes tables (content_in tables)) (λ bytes. HoldsTables bytes tables) sure (λ bytes holds. (content_in tables, holds)) settled.holds
 
 -- Files could not be loaded, so nothing is listed.
 pub unlisted : {K D : Type 0} (written : K → Option (List ℕ)) (faults : K → ℕ) (told : Told D) (old new : Files D) (fault : LoadFault) (status : Status) (sink : K)

@@ -8,7 +8,7 @@ ghost use Rattle.row_store.specs.Holding.{nothing_stored};
 ghost use Rattle.row_store.specs.Crashes.{JointlyHolds};
 ghost use Rattle.mail_server.specs.declared.status.Status.TheVariants.{Done, NoMemory, NotAStore};
 ghost use Rattle.mail_server.specs.Outside.{EndsWriting};
-ghost use Rattle.mail_server.specs.Stores.{MakesStore, ListsTables};
+ghost use Rattle.mail_server.specs.Stores.{MakesStore, ListsTables, TearsHead};
 
 use crate::answer::end_with;
 use crate::status::Status;
@@ -42,7 +42,7 @@ fn format_unless<D: Disk>(alloc: Global, unloaded: Unloaded<D>) -> (Status, File
     ensures status { (result.0 ≡ Done) ⊎ ((result.0 ≡ NoMemory) ⊎ (result.0 ≡ Status.StoreFault)) }
     ensures no_memory { result.0 ≡ NoMemory → (unloaded.fault ≢ LoadFault.Failed) × (result.1 ≡ unloaded.files) }
     ensures store_fault { result.0 ≡ Status.StoreFault → ((unloaded.fault ≡ LoadFault.Failed) × (result.1 ≡ unloaded.files)) ⊎ FaultRose D.told unloaded.files result.1 }
-    ensures left { (unloaded.fault ≡ LoadFault.NotAStore) ⊎ (result.1 ≡ unloaded.files) }
+    ensures left { ((unloaded.fault ≡ LoadFault.NotAStore) × TearsHead D.told unloaded.files.log0 result.1.log0) ⊎ (result.1 ≡ unloaded.files) }
     ensures others { LeavesOthers unloaded.files result.1 }
     ensures reads { ReadsNothing D.told unloaded.files result.1 }
 {
@@ -60,6 +60,7 @@ fn format<D: Disk>(alloc: Global, files: Files<D>) -> (Status, Files<D>)
     ensures status { (result.0 ≡ Done) ⊎ ((result.0 ≡ NoMemory) ⊎ (result.0 ≡ Status.StoreFault)) }
     ensures no_memory { result.0 ≡ NoMemory → result.1 ≡ files }
     ensures store_fault { result.0 ≡ Status.StoreFault → FaultRose D.told files result.1 }
+    ensures left { TearsHead D.told files.log0 result.1.log0 }
     ensures others { LeavesOthers files result.1 }
     ensures reads { ReadsNothing D.told files result.1 }
 {
