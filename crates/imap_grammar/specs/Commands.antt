@@ -1,5 +1,5 @@
 -- What a unit is: a command with its tag, or none, with a tag or without.
-use Rattle.std.specs.Prelude.{◌≡◌, ℕ, true, false, List, Option, Some, None, Result, Ok, Err}
+use Rattle.std.specs.Prelude.{◌≡◌, ℕ, true, false, List, Some, None, Result, Ok, Err}
 use Rattle.imap_grammar.specs.declared.commands.Command.{Command}
 use Rattle.imap_grammar.specs.declared.commands.Command.TheVariants.{Capability, Noop, Logout, Check, Close, Expunge, Create, Delete, Subscribe, Unsubscribe}
 use Rattle.imap_grammar.specs.declared.commands.Tagged.{Tagged}

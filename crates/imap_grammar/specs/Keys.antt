@@ -1,5 +1,5 @@
 -- The keys of searches that have no keys within (RFC 3501 §6.4.4; RFC 4551 §3.4).
-use Rattle.std.specs.Prelude.{ℕ, ℤ, Bool, true, false, nat_le, if◌then◌else◌, List, [], ◌∷◌, length, take, drop, codes, Option, Some, None, option_map}
+use Rattle.std.specs.Prelude.{ℕ, ℤ, true, nat_le, if◌then◌else◌, List, [], ◌∷◌, length, take, drop, codes, Option, Some, None, option_map}
 use Rattle.date_grammar.specs.Dates.{search_day}
 use Rattle.imap_grammar.specs.declared.flags.Flag.{Flag}
 use Rattle.imap_grammar.specs.declared.flags.Flag.TheVariants.{Answered, Deleted, Draft, Flagged, Seen}

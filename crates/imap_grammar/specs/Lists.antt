@@ -1,5 +1,5 @@
 -- Lists of what one rule reads.
-use Rattle.std.specs.Prelude.{ℕ, zero, suc, if◌then◌else◌, List, [], ◌∷◌, ◌++◌, length, Option, Some}
+use Rattle.std.specs.Prelude.{ℕ, zero, suc, if◌then◌else◌, List, [], ◌∷◌, ◌++◌, length, Some}
 use Rattle.imap_grammar.specs.Readings.{Reading, ◌>>=◌, ◌>>◌, byte, pure, nothing, sees, after}
 
 -- One or more, each two with a byte between, behind what was found. The number bounds the turns; each turn takes a byte, so the

@@ -1,5 +1,5 @@
 -- SEARCH, and keys within keys (RFC 3501 §6.4.4).
-use Rattle.std.specs.Prelude.{ℕ, zero, suc, Bool, true, false, ◌||◌, if◌then◌else◌, List, [], ◌∷◌, codes, Option, Some, None}
+use Rattle.std.specs.Prelude.{ℕ, zero, suc, true, false, if◌then◌else◌, List, [], ◌∷◌, codes}
 use Rattle.mail_text.specs.Texts.{begins}
 use Rattle.imap_grammar.specs.declared.classes.Class.TheVariants.{Digit}
 use Rattle.imap_grammar.specs.declared.searching.SearchKey.{SearchKey}
