@@ -1,2 +1,3 @@
 mod RunLemmas
 mod SetLaws
+mod TextLaws

@@ -1,5 +1,5 @@
 -- How runs are printed one after another.
-use Rattle.std.proofs.Common.{◌≡◌, ℕ, ◌+◌, Bool, true, false, cond, eqb, List, [], ◌∷◌, ◌++◌, refl, ap, ◌∙◌, append_assoc}
+use Rattle.std.proofs.Common.{◌≡◌, ℕ, ◌+◌, Bool, true, false, cond, eqb, List, [], ◌∷◌, ◌++◌, ◌∙◌, append_assoc}
 use Rattle.std.specs.Prelude.{flat_map, codes}
 use Rattle.imap_writer.specs.declared.runs.Run.{Run}
 use Rattle.imap_writer.specs.Sets.{run_text, runs_behind, runs_text}

@@ -1,6 +1,5 @@
 -- The answer to STATUS (RFC 3501 §7.2.4).
 use Rattle.std.specs.Prelude.{ℕ, List, ◌++◌, map, codes, decimal}
-use Rattle.imap_grammar.specs.declared.items.StatusItem.{StatusItem}
 use Rattle.imap_grammar.specs.StatusItems.{status_text}
 use Rattle.imap_writer.specs.declared.statuses.Told.{Told}
 use Rattle.imap_writer.specs.Texts.{text_of}

@@ -14,7 +14,7 @@ mod texts;
 
 pub use fetches::{Value, push_fetch};
 pub use flags::{flag_list, push_flags};
-pub use laws::law_sets;
+pub use laws::{law_sets, law_texts};
 pub use lines::{
     push_exists, push_expunge, push_flag_names, push_highest, push_list, push_permanent,
     push_recent, push_uidnext, push_uidvalidity, push_unseen, push_vanished,
