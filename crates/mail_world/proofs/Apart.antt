@@ -93,7 +93,7 @@ changed-apart : (world : World) (user : ℕ) (which : Mailbox → Bool) (f : Mai
 changed-apart world user which f keeps none =
     own_same (with_changed which f world) world user refl (filter-step (is_owned_by user) which f (λ m. ap (λ n. n == user) (keeps m)) world.mailboxes none) refl
 
-more_owner : (taken : Bool) (messages : List Message) (m : Mailbox) → (with_messages taken messages m).head.owner ≡ m.head.owner
+pub more_owner : (taken : Bool) (messages : List Message) (m : Mailbox) → (with_messages taken messages m).head.owner ≡ m.head.owner
 more_owner taken [] m = refl
 more_owner taken (message ∷ messages) m = refl
 

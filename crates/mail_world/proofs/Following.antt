@@ -68,17 +68,17 @@ more-follows change taken (message ∷ messages) m legal e = record {
   owner = refl;
 }
 
-more_keeps : (taken : Bool) (messages : List Message) (m : Mailbox) → (with_messages taken messages m).head.id ≡ m.head.id
+pub more_keeps : (taken : Bool) (messages : List Message) (m : Mailbox) → (with_messages taken messages m).head.id ≡ m.head.id
 more_keeps taken [] m = refl
 more_keeps taken (message ∷ messages) m = refl
 
-left_keeps : (which : ℕ → Bool) (m : Mailbox) → (without_messages which m).head.id ≡ m.head.id
+pub left_keeps : (which : ℕ → Bool) (m : Mailbox) → (without_messages which m).head.id ≡ m.head.id
 left_keeps which m = cond_both _ _ m (λ n. n.head.id ≡ m.head.id) (λ e. refl) (λ e. refl)
 
 pub left_owner : (which : ℕ → Bool) (m : Mailbox) → (without_messages which m).head.owner ≡ m.head.owner
 left_owner which m = cond_both _ _ m (λ n. n.head.owner ≡ m.head.owner) (λ e. refl) (λ e. refl)
 
-stored_keeps : (uids : List ℕ) (how : _) (named : _) (m : Mailbox) → (with_stored uids how named m).head.id ≡ m.head.id
+pub stored_keeps : (uids : List ℕ) (how : _) (named : _) (m : Mailbox) → (with_stored uids how named m).head.id ≡ m.head.id
 stored_keeps uids how named m = cond_both _ _ m (λ n. n.head.id ≡ m.head.id) (λ e. refl) (λ e. refl)
 
 pub stored_owner : (uids : List ℕ) (how : _) (named : _) (m : Mailbox) → (with_stored uids how named m).head.owner ≡ m.head.owner

@@ -24,19 +24,19 @@ is_gone uid pair = pair.uid == uid
 
 -- Flags.
 
-abbrev restored : List ℕ → FlagChange → List Flag → ℕ → Entry → Entry
+abbrev pub restored : List ℕ → FlagChange → List Flag → ℕ → Entry → Entry
 restored uids how named modseq entry = cond (is_changed uids how named entry) (with_flags how named modseq entry) entry
 
 restored_uid : (uids : List ℕ) (how : FlagChange) (named : List Flag) (modseq uid : ℕ) (entry : Entry) → has_uid uid (restored uids how named modseq entry) ≡ has_uid uid entry
 restored_uid uids how named modseq uid entry =
     cond_both (is_changed uids how named entry) (with_flags how named modseq entry) entry (λ e. has_uid uid e ≡ has_uid uid entry) (λ e. refl) (λ e. refl)
 
-restored-at : (uids : List ℕ) (how : FlagChange) (named : List Flag) (modseq uid : ℕ) (entries : List Entry)
+pub restored-at : (uids : List ℕ) (how : FlagChange) (named : List Flag) (modseq uid : ℕ) (entries : List Entry)
     → entry_at uid (map (restored uids how named modseq) entries) ≡ option_map (restored uids how named modseq) (entry_at uid entries)
 restored-at uids how named modseq uid entries = find-map (has_uid uid) (restored uids how named modseq) (restored_uid uids how named modseq uid) entries
 
 -- what comes of an entry that is found, by the one that it was
-mapped : {P : Type 0} (f : Entry → Entry) (o : Option Entry) (entry : Entry) → option_map f o ≡ Some entry → ((old : Entry) → o ≡ Some old → entry ≡ f old → P) → P
+pub mapped : {P : Type 0} (f : Entry → Entry) (o : Option Entry) (entry : Entry) → option_map f o ≡ Some entry → ((old : Entry) → o ≡ Some old → entry ≡ f old → P) → P
 mapped f None entry found use_it = absurd (none-some entry found)
 mapped f (Some old) entry found use_it = use_it old refl (sym (same_Some (f old) entry found))
 
@@ -159,14 +159,14 @@ went-none : (which : ℕ → Bool) (uid : ℕ) (entries : List Entry) → which 
 went-none which uid entries e = find-filter_none (has_uid uid) (λ entry. which entry.uid) (λ entry here. ap which (eqb-true entry.uid uid here) ∙ e) entries
 
 -- what holds of a mailbox from which some messages went
-record HasLost (which : ℕ → Bool) (m n : Mailbox) : Type 0 where
-  uidnext : n.head.uidnext ≡ m.head.uidnext
-  first : n.head.first_recent ≡ m.head.first_recent
-  highest : n.head.highest ≡ m.head.highest + 1
-  left : (uid : ℕ) → which uid ≡ false → (entry_at uid n.entries ≡ entry_at uid m.entries) × (gone_at uid n.gone ≡ gone_at uid m.gone)
-  went : (uid : ℕ) → which uid ≡ true → (entry_at uid n.entries ≡ None) × (gone_at uid n.gone ≡ gone_with uid (m.head.highest + 1) (entry_at uid m.entries) (gone_at uid m.gone))
+pub record HasLost (which : ℕ → Bool) (m n : Mailbox) : Type 0 where
+  pub uidnext : n.head.uidnext ≡ m.head.uidnext
+  pub first : n.head.first_recent ≡ m.head.first_recent
+  pub highest : n.head.highest ≡ m.head.highest + 1
+  pub left : (uid : ℕ) → which uid ≡ false → (entry_at uid n.entries ≡ entry_at uid m.entries) × (gone_at uid n.gone ≡ gone_at uid m.gone)
+  pub went : (uid : ℕ) → which uid ≡ true → (entry_at uid n.entries ≡ None) × (gone_at uid n.gone ≡ gone_with uid (m.head.highest + 1) (entry_at uid m.entries) (gone_at uid m.gone))
 
-has_lost : (which : ℕ → Bool) (m n : Mailbox) → n.head.uidnext ≡ m.head.uidnext → n.head.first_recent ≡ m.head.first_recent → n.head.highest ≡ m.head.highest + 1
+pub has_lost : (which : ℕ → Bool) (m n : Mailbox) → n.head.uidnext ≡ m.head.uidnext → n.head.first_recent ≡ m.head.first_recent → n.head.highest ≡ m.head.highest + 1
     → n.entries ≡ filter (λ entry. not (which entry.uid)) m.entries → n.gone ≡ with_all_gone (m.head.highest + 1) (filter (λ entry. which entry.uid) m.entries) m.gone → HasLost which m n
 has_lost which m n uidnext first highest entries gone = record {
   uidnext = uidnext;

@@ -19,7 +19,7 @@ same_flag (Keyword a) (Keyword b) = pointwise nat_eq a b
 same_flag a b = false
 
 abbrev pub has_flag : Flag → List Flag → Bool
-has_flag flag flags = list_any (same_flag flag) flags
+has_flag flag flags = list_any (λ other. same_flag other flag) flags
 
 -- the same set of flags, in whichever order
 abbrev pub same_flags : List Flag → List Flag → Bool
@@ -29,6 +29,11 @@ same_flags a b = list_all (λ flag. has_flag flag b) a && list_all (λ flag. has
 abbrev pub distinct : List Flag → List Flag
 distinct [] = []
 distinct (flag ∷ flags) = flag ∷ filter (λ other. not (same_flag flag other)) (distinct flags)
+
+-- whether no flag stands twice
+abbrev pub are_distinct : List Flag → Bool
+are_distinct [] = true
+are_distinct (flag ∷ flags) = not (list_any (same_flag flag) flags) && are_distinct flags
 
 -- What STORE makes of a message's flags with those that it names (RFC 3501 §6.4.6).
 abbrev pub stored_flags : FlagChange → List Flag → List Flag → List Flag

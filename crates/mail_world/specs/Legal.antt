@@ -9,8 +9,9 @@ use Rattle.row_tables.specs.Names.{user_named}
 use Rattle.row_tables.specs.declared.heads.User.{User}
 use Rattle.row_tables.specs.declared.heads.Subscription.{Subscription}
 use Rattle.mail_world.specs.Names.{inbox}
-use Rattle.mail_world.specs.Flags.{is_flag, distinct}
+use Rattle.mail_world.specs.Flags.{is_flag, are_distinct}
 use Rattle.mail_world.specs.Worlds.{World, Mailbox, Entry, Gone, user_at, mailbox_at, mailbox_named, entry_at, gone_at, is_owned_by}
+use Rattle.mail_world.specs.Changes.{Change, Create, Append, Deliver, StoreFlags}
 use Rattle.mail_world.specs.Limits.{most_users, most_mailboxes, most_subscriptions, most_messages, most_flags, last_mailbox, last_uid, last_modseq}
 
 -- each number is less than all behind it
@@ -24,9 +25,9 @@ pub record IsGiven (mailbox : Mailbox) (uid modseq : ℕ) : Type 0 where
   pub below_next : uid < mailbox.head.uidnext
   pub reached : modseq ≤ mailbox.head.highest
 
--- the flags of a message, as it has them
+-- The flags of a message: each of them once.
 pub record AreFlags (flags : List Flag) : Type 0 where
-  pub once : distinct flags ≡ flags
+  pub once : are_distinct flags ≡ true
   pub few : length flags ≤ most_flags
   pub proper : list_all is_flag flags ≡ true
 
@@ -68,3 +69,11 @@ pub record IsLegal (world : World) : Type 0 where
   pub subscribers : AllByRecursion (λ subscription. IsSome (user_at subscription.owner world.users)) world.subscriptions
   pub few_subscriptions : (user : ℕ) → count_by (λ subscription. subscription.owner == user) world.subscriptions ≤ most_subscriptions
   pub next : world.next ≤ last_mailbox
+
+-- What who asks for a change makes sure of: a mailbox is made for a user, and flags and dates are ones.
+abbrev pub IsProper : World → Change → Type 0
+IsProper world (Create owner name) = IsSome (user_at owner world.users)
+IsProper world (Append id flags date mail taken) = (list_all is_flag flags ≡ true) × HasPrint date
+IsProper world (Deliver users mail date taken) = HasPrint date
+IsProper world (StoreFlags id uids how flags) = list_all is_flag flags ≡ true
+IsProper world change = ⊤
