@@ -1,5 +1,5 @@
 -- The rows of a field are those of one field.
-use Rattle.std.proofs.Common.{◌≡◌, ℕ, ◌+◌, List, [], ◌∷◌, Some, refl, sym, ap, ◌∙◌, subst, arith}
+use Rattle.std.proofs.Common.{◌≡◌, ℕ, ◌+◌, List, [], ◌∷◌, Some, refl, sym, ap, ◌∙◌, arith}
 use Rattle.mime_tree.specs.declared.values.Field.{Field}
 use Rattle.mime_tree.specs.declared.values.Item.{Item}
 use Rattle.mime_tree.specs.declared.values.Item.TheVariants.{Address, Group, GroupEnd}
@@ -7,7 +7,6 @@ use Rattle.mime_tree.specs.declared.values.SentDate.{SentDate}
 use Rattle.mime_tree.specs.declared.values.Value.{Value}
 use Rattle.mime_tree.specs.declared.values.Value.TheVariants.{Text, Addresses, Date, Ids}
 use Rattle.row_tables.specs.TableRows.{TableRows}
-use Rattle.row_tables.specs.References.{fields_at}
 use Rattle.row_tables.specs.declared.mails.HeaderField.{HeaderField}
 use Rattle.row_tables.specs.declared.values.AddressField.{AddressField}
 use Rattle.row_tables.specs.declared.values.DateField.{DateField}

@@ -1,8 +1,9 @@
 // Mails from their rows.
-ghost use Rattle.std.specs.Prelude.{◌≡◌, ◌≤◌, ℕ, List, IfOk};
+ghost use Rattle.std.specs.Prelude.{◌≡◌, ◌≤◌, ℕ, List, Option, IfOk};
 ghost use Rattle.mime_reader.specs.Wrapping.{mail};
 ghost use Rattle.mime_tree.specs.Sizes.{levels};
 ghost use Rattle.mime_tree.specs.declared.reasons.Mail.{Mail};
+ghost use Rattle.row_store.specs.Holding.{in_row, stored_by};
 ghost use Rattle.shredder.specs.MessageRows.{HasRows};
 ghost use Rattle.rebuilder.specs.Rebuilding.{HasMail, OneMail, most_levels, top_fields};
 
@@ -18,7 +19,7 @@ const MOST_LEVELS: usize = 100;
 
 // The message of the mail whose rows the message with the id has.
 pub(crate) fn tree_in(alloc: Global, tables: &Tables, id: u64) -> Result<Message, AllocError>
-    ensures { (mail : Mail) → HasMail tables.now id mail → IfOk result (λ message. message ≡ mail.message) }
+    ensures { (mail : Mail) → HasMail (stored_by in_row tables.now) id mail → IfOk result (λ message. message ≡ mail.message) }
 {
     match tables.part_numbers_row((id, b"")) {
         Some(part) => node_in(alloc, tables, part, MOST_LEVELS),
@@ -28,14 +29,15 @@ pub(crate) fn tree_in(alloc: Global, tables: &Tables, id: u64) -> Result<Message
 
 // The header fields of the message itself, in their order.
 pub(crate) fn header_in(alloc: Global, tables: &Tables, id: u64) -> Result<Vec<Field>, AllocError>
-    ensures { (mail : Mail) → HasRows tables.now id mail → IfOk result (λ fields. fields.items ≡ top_fields mail.message) }
+    ensures { (contents : ℕ → Option (List ℕ)) (mail : Mail) → HasRows (record { tables = tables.now; contents = contents }) id mail
+        → IfOk result (λ fields. fields.items ≡ top_fields mail.message) }
 {
     fields_in(alloc, tables, id, b"")
 }
 
 /// Why the text that the mail was made of is no message, if it isn't. Rows that are no mail's give some reason, or none.
 pub fn reason_in(tables: &Tables, id: u64) -> Option<Reason>
-    ensures { (mail : Mail) → HasRows tables.now id mail → result ≡ mail.reason }
+    ensures { (contents : ℕ → Option (List ℕ)) (mail : Mail) → HasRows (record { tables = tables.now; contents = contents }) id mail → result ≡ mail.reason }
 {
     match tables.unparsed_messages_row(id)?.reason {
         1 => Some(Reason::ZeroByte),

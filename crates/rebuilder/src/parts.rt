@@ -4,6 +4,7 @@ ghost use Rattle.mime_tree.specs.Contents.{content_of, trees_of};
 ghost use Rattle.mime_tree.specs.Sizes.{levels, levels_in, levels_of};
 ghost use Rattle.mime_tree.specs.Trees.{Content, Tree, Trees};
 ghost use Rattle.mime_tree.specs.Trees.Content.{leaf};
+ghost use Rattle.row_store.specs.Holding.{in_row, stored_by};
 ghost use Rattle.shredder.specs.MessageRows.{HasBody, HasChildren, HasNode};
 ghost use Rattle.shredder.specs.Paths.{child_path};
 ghost use Rattle.rebuilder.specs.Parts.{IsPart};
@@ -24,7 +25,7 @@ pub(crate) fn node_in(
     part: &PartNumber,
     most: usize,
 ) -> Result<Message, AllocError>
-    ensures { (tree : Tree) → IsPart tables.now part.now → HasNode tables.now part.now.message part.now.path tree → levels tree ≤ most
+    ensures { (tree : Tree) → IsPart tables.now part.now → HasNode (stored_by in_row tables.now) part.now.message part.now.path tree → levels tree ≤ most
         → IfOk result (λ message. message ≡ tree) }
 {
     if most == 0 {
@@ -53,7 +54,7 @@ fn body_in(
     part: &PartNumber,
     most: usize,
 ) -> Result<Body, AllocError>
-    ensures { (content : Content) → IsPart tables.now part.now → HasBody tables.now part.now.message part.now.path content → levels_in content ≤ most
+    ensures { (content : Content) → IsPart tables.now part.now → HasBody (stored_by in_row tables.now) part.now.message part.now.path content → levels_in content ≤ most
         → IfOk result (λ body. content_of body ≡ content) }
 {
     match part.kind {
@@ -75,7 +76,7 @@ fn children_in(
     part: &PartNumber,
     most: usize,
 ) -> Result<Vec<Message>, AllocError>
-    ensures { (trees : Trees) → HasChildren tables.now part.now.message part.now.path 1 trees → levels_of trees ≤ most
+    ensures { (trees : Trees) → HasChildren (stored_by in_row tables.now) part.now.message part.now.path 1 trees → levels_of trees ≤ most
         → IfOk result (λ v. trees_of v.items ≡ trees) }
 {
     let mut children = Vec::new(alloc);
@@ -93,7 +94,7 @@ fn inner_in(
     part: &PartNumber,
     most: usize,
 ) -> Result<Message, AllocError>
-    ensures { (tree : Tree) → HasNode tables.now part.now.message (child_path part.now.path 0) tree → levels tree ≤ most
+    ensures { (tree : Tree) → HasNode (stored_by in_row tables.now) part.now.message (child_path part.now.path 0) tree → levels tree ≤ most
         → IfOk result (λ message. message ≡ tree) }
 {
     match child_of(alloc, tables, part, 0)? {
@@ -109,7 +110,7 @@ fn leaf_in(
     part: &PartNumber,
     encoding: Encoding,
 ) -> Result<Body, AllocError>
-    ensures { (bytes : List ℕ) → IsPart tables.now part.now → HasBody tables.now part.now.message part.now.path (leaf encoding bytes)
+    ensures { (bytes : List ℕ) → IsPart tables.now part.now → HasBody (stored_by in_row tables.now) part.now.message part.now.path (leaf encoding bytes)
         → IfOk result (λ body. content_of body ≡ leaf encoding bytes) }
 {
     let bytes = match tables.bodyparts_row(part.body) {

@@ -1,10 +1,10 @@
 // Mails from the rows of a store.
-ghost use Rattle.std.specs.Prelude.{◌≡◌, false, IfOk, OnOk, IsOk, IsErrOf};
+ghost use Rattle.std.specs.Prelude.{◌≡◌, ℕ, false, List, Option, IfOk, IsOk, IsErrOf};
 ghost use Rattle.canon_writer.specs.Printing.{print};
 ghost use Rattle.mime_tree.specs.declared.reasons.Mail.{Mail};
-ghost use Rattle.row_store.specs.ThreeFiles.{FaultRose, KeepsDisks, LeavesAllAlone};
-ghost use Rattle.row_store.specs.Holding.{stored};
-ghost use Rattle.row_store.specs.Crashes.{Stays};
+ghost use Rattle.row_store.specs.ThreeFiles.{LeavesAllAlone};
+ghost use Rattle.row_store.specs.Holding.{stored_by};
+ghost use Rattle.row_store.specs.Kept.{IfContents, KeepsState};
 ghost use Rattle.row_store.specs.declared.faults.StoreFault.{StoreFault};
 ghost use Rattle.shredder.specs.MessageRows.{HasRows};
 ghost use Rattle.rebuilder.specs.Rebuilding.{HasMail, top_fields};
@@ -23,14 +23,11 @@ use std::alloc::{AllocError, Global};
 /// which message, isn't promised. So it is where no message has the id.
 pub fn tree<D: Disk>(alloc: Global, store: &mut RowStore<D>, id: u64) -> Result<Message, StoreFault>
     requires usable { store.old.spent ≡ false }
-    ensures tree { (mail : Mail) → HasMail store.old.tables id mail → IfOk result (λ message. message ≡ mail.message) }
-    ensures tables { store.new.tables ≡ store.old.tables }
+    ensures tree { IfContents D.told store.old (λ content. (mail : Mail) → HasMail (stored_by content store.old.tables) id mail
+        → IfOk result (λ message. message ≡ mail.message)) }
     ensures placed { store.new.placed ≡ store.old.placed }
-    ensures crash { Stays D.told (IsOk result) store.old.files store.new.files (stored store.old.tables) }
+    ensures keeps { KeepsState D.told (IsOk result) (IsErrOf result StoreFault.Failed) store.old store.new }
     ensures untouched { LeavesAllAlone D.told store.old.files store.new.files }
-    ensures goes_on { OnOk result (store.new.spent ≡ false) }
-    ensures failed { IsErrOf result StoreFault.Failed → FaultRose D.told store.old.files store.new.files }
-    ensures disks { KeepsDisks D.told store.old.files store.new.files }
 {
     store.is_settled();
     Ok(tree_in(alloc, store.tables(), id)?)
@@ -43,14 +40,11 @@ pub fn message<D: Disk>(
     id: u64,
 ) -> Result<Vec<u8>, StoreFault>
     requires usable { store.old.spent ≡ false }
-    ensures text { (mail : Mail) → HasMail store.old.tables id mail → IfOk result (λ text. text.items ≡ print mail.message) }
-    ensures tables { store.new.tables ≡ store.old.tables }
+    ensures text { IfContents D.told store.old (λ content. (mail : Mail) → HasMail (stored_by content store.old.tables) id mail
+        → IfOk result (λ text. text.items ≡ print mail.message)) }
     ensures placed { store.new.placed ≡ store.old.placed }
-    ensures crash { Stays D.told (IsOk result) store.old.files store.new.files (stored store.old.tables) }
+    ensures keeps { KeepsState D.told (IsOk result) (IsErrOf result StoreFault.Failed) store.old store.new }
     ensures untouched { LeavesAllAlone D.told store.old.files store.new.files }
-    ensures goes_on { OnOk result (store.new.spent ≡ false) }
-    ensures failed { IsErrOf result StoreFault.Failed → FaultRose D.told store.old.files store.new.files }
-    ensures disks { KeepsDisks D.told store.old.files store.new.files }
 {
     let message = tree(alloc, store, id)?;
     Ok(write_message(alloc, &message)?)
@@ -64,7 +58,8 @@ pub fn header<D: Disk>(
     id: u64,
 ) -> Result<Vec<Field>, AllocError>
     requires usable { store.now.spent ≡ false }
-    ensures { (mail : Mail) → HasRows store.now.tables id mail → IfOk result (λ fields. fields.items ≡ top_fields mail.message) }
+    ensures { (contents : ℕ → Option (List ℕ)) (mail : Mail) → HasRows (record { tables = store.now.tables; contents = contents }) id mail
+        → IfOk result (λ fields. fields.items ≡ top_fields mail.message) }
 {
     Ok(header_in(alloc, store.tables(), id)?)
 }

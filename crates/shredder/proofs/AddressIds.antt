@@ -1,5 +1,5 @@
 -- The ids of a value's addresses.
-use Rattle.std.proofs.Common.{◌≡◌, ℕ, List, [], ◌∷◌, ◌++◌, Option, Some, None}
+use Rattle.std.proofs.Common.{ℕ, List, [], ◌∷◌, ◌++◌, Option, Some, None}
 use Rattle.mime_tree.specs.declared.values.Item.{Item}
 use Rattle.row_tables.specs.declared.contents.AddressRow.{AddressRow}
 use Rattle.shredder.specs.MessageRows.{AddressTexts, HasAddress, IsAddressId, texts_of}

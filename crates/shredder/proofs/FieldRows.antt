@@ -1,9 +1,8 @@
 -- The rows of one field.
-use Rattle.std.proofs.Common.{◌≡◌, ◌≢◌, ℕ, ◌+◌, ◌<◌, ◌≤◌, Bool, true, false, ◌&&◌, ◌==◌, nat_eq, List, [], ◌∷◌, ◌++◌, length, map, Option, Some, None, IsSome, is_some, refl, sym, ap, ◌∙◌, subst, arith}
+use Rattle.std.proofs.Common.{◌≡◌, ℕ, ◌+◌, ◌<◌, Bool, true, ◌&&◌, ◌==◌, nat_eq, List, [], ◌∷◌, ◌++◌, map, Option, Some, None, IsSome, is_some, refl, sym, ap, ◌∙◌, subst, arith}
 use mathlib.Core.Bool.{true≢false}
 use borrow.Author.Tests.{eqb-true}
 use Rattle.std.proofs.lemmas.Bool.{and_parts, and_from, eq-eqb, lt-ltb}
-use Rattle.std.proofs.lemmas.List.{append-nil}
 use Rattle.std.specs.Ordering.{is_lt}
 use Rattle.std.specs.Option.{option_map}
 use Rattle.std.specs.List.{AllByRecursion, filter}
@@ -12,15 +11,13 @@ use Rattle.mime_tree.specs.declared.values.Field.{Field}
 use Rattle.mime_tree.specs.declared.values.Item.{Item}
 use Rattle.mime_tree.specs.declared.values.Item.TheVariants.{Address, Group, GroupEnd}
 use Rattle.mime_tree.specs.declared.values.SentDate.{SentDate}
-use Rattle.mime_tree.specs.declared.values.Value.{Value}
-use Rattle.mime_tree.specs.declared.values.Value.TheVariants.{Text, Addresses, Date, Ids}
 use Rattle.ordered_rows.specs.RowKey.{RowKey, key_cmp, number_key}
 use Rattle.ordered_rows.specs.Listed.{has_key, is_below, row_at, with_row}
-use Rattle.row_tables.specs.Keys.{field_key, item_key, field_name_key, header_field_key, address_key, address_field_key, date_field_key, message_id_key}
+use Rattle.row_tables.specs.Keys.{field_key, item_key, field_name_key, header_field_key, address_field_key, date_field_key, message_id_key}
 use Rattle.row_tables.specs.TableRows.{TableRows}
-use Rattle.row_tables.specs.References.{AreOrdered, AreClosed, HasMessage, HasPart, HasField, HasFieldName, AddressRefers, DateRefers, IdRefers, fields_at, addresses_at, ids_at}
+use Rattle.row_tables.specs.References.{AreOrdered, AreClosed, HasMessage, HasPart, HasField, HasFieldName, AddressRefers, DateRefers, IdRefers, fields_at}
 use Rattle.row_tables.specs.References.{HasAddress as HasAddressRow}
-use Rattle.row_tables.specs.Fits.{IsText, Fits, applied}
+use Rattle.row_tables.specs.Fits.{IsText, applied}
 use Rattle.row_tables.specs.declared.mails.HeaderField.{HeaderField}
 use Rattle.row_tables.specs.declared.values.AddressField.{AddressField}
 use Rattle.row_tables.specs.declared.values.DateField.{DateField}
@@ -28,11 +25,10 @@ use Rattle.row_tables.specs.declared.values.MessageId.{MessageId}
 use Rattle.row_tables.specs.declared.contents.FieldName.{FieldName}
 use Rattle.row_tables.specs.declared.contents.AddressRow.{AddressRow}
 use Rattle.row_tables.specs.declared.change.RowChange.{RowChange}
-use Rattle.row_tables.specs.declared.change.RowChange.TheVariants.{InsertMessageRow, InsertBodyPart, InsertPartNumber, InsertFieldName, InsertHeaderField, InsertAddressRow, InsertAddressField, InsertDateField, InsertMessageId, InsertUnparsedMessage}
-use Rattle.shredder.specs.MessageRows.{AddressTexts, texts_in, HasName, HasAddress, IsAddressId, IsItemRow, AreItemRows, IsPrinted, IsFieldRow, HasNoValue, form_of, text_of, items_of, date_of, ids_of, kind_of, texts_of, date_row, id_rows}
-use Rattle.shredder.specs.Fitting.{ValueFits}
+use Rattle.row_tables.specs.declared.change.RowChange.TheVariants.{InsertHeaderField, InsertAddressField, InsertDateField, InsertMessageId}
+use Rattle.shredder.specs.MessageRows.{texts_in, HasName, IsAddressId, AreItemRows, IsPrinted, IsFieldRow, HasNoValue, text_of, items_of, date_of, ids_of, kind_of, texts_of, date_row, id_rows}
 use Rattle.shredder.specs.Making.{RowLaws, Makes, IsAt, Here, IsAdded, AreBefore, AreAddressIds, field_row, item_rows, date_rows, value_changes}
-use Rattle.shredder.proofs.Lookups.{some_none, mapped_some}
+use Rattle.shredder.proofs.Lookups.{mapped_some}
 use Rattle.shredder.proofs.Frames.{MissesPlace, values_along, all_joined, makes_then, is_field_at, fields_by_test}
 use Rattle.shredder.proofs.Groups.{none_pass, none_found, all_passing, items_lt, with_rows, AreBelow, is_free, behind_group, AreNumbered, IsOpenFrom, next_free, next_open, all_behind}
 

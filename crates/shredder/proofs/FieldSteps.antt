@@ -1,5 +1,5 @@
 -- The fields of a part, one after another.
-use Rattle.std.proofs.Common.{◌≡◌, ◌≢◌, ℕ, ◌+◌, ◌<◌, ◌≤◌, Bool, true, false, ◌==◌, List, [], ◌∷◌, ◌++◌, length, IsSome, is_some, refl, sym, ap, ◌∙◌, subst, arith}
+use Rattle.std.proofs.Common.{◌≡◌, ℕ, ◌+◌, ◌≤◌, Bool, true, false, List, [], ◌∷◌, ◌++◌, length, IsSome, is_some, refl, sym, ap, ◌∙◌, subst, arith}
 use Rattle.std.specs.List.{AllByRecursion}
 use Rattle.mime_tree.specs.declared.values.Field.{Field}
 use Rattle.mime_tree.specs.declared.values.Value.{Value}
@@ -13,7 +13,8 @@ use Rattle.row_tables.specs.Fits.{IsText, applied}
 use Rattle.row_tables.specs.declared.mails.HeaderField.{HeaderField}
 use Rattle.row_tables.specs.declared.change.RowChange.{RowChange}
 use Rattle.row_tables.specs.declared.change.RowChange.TheVariants.{InsertMessageRow, InsertBodyPart, InsertPartNumber, InsertFieldName, InsertHeaderField, InsertAddressRow, InsertAddressField, InsertDateField, InsertMessageId, InsertUnparsedMessage}
-use Rattle.shredder.specs.MessageRows.{HasName, IsPrinted, IsFieldRow, AreFieldRows, HasFields, text_of, items_of, date_of, ids_of, part_at}
+use Rattle.row_store.specs.Holding.{stored_by, in_row}
+use Rattle.shredder.specs.MessageRows.{HasName, IsPrinted, IsFieldRow, AreFieldRows, HasFields, text_of, items_of, date_of, ids_of}
 use Rattle.shredder.specs.Distinct.{Keeps}
 use Rattle.shredder.specs.Fitting.{ValueFits, FieldFits}
 use Rattle.shredder.specs.Shredding.{SameAt}
@@ -21,8 +22,7 @@ use Rattle.shredder.specs.Making.{Suits, RowLaws, Makes, Nowhere, Here, Between,
 use Rattle.shredder.proofs.Frames.{same_then}
 use Rattle.shredder.proofs.Staying.{rows_stay}
 use Rattle.shredder.proofs.Steps.{leads_then, leads_so, leads_own, leads_keeps, leads_same}
-use Rattle.shredder.proofs.FieldRows.{Adds, field_added, field_free, no_values}
-use Rattle.shredder.proofs.AddressIds.{ids_kept}
+use Rattle.shredder.proofs.FieldRows.{field_added, field_free, no_values}
 
 -- ---- a part stays there
 
@@ -82,7 +82,7 @@ field_step laws message t path place field now added0 added1 added2 changes0 cha
     let N : TableRows → Type 0 = λ after. HasName after.shared.field_names name field.name in
     let A : TableRows → Type 0 = λ after. AreAddressIds after.shared.addresses (items_of field.value) ids in
     let middle = addresses.after in
-    let keeps : Keeps names.after.shared middle.shared = leads_keeps message t laws names.after added1 added2 changes1 changes2 Nowhere A names.between addresses in
+    let keeps : Keeps (stored_by in_row names.after) (stored_by in_row middle) = leads_keeps message t laws names.after added1 added2 changes1 changes2 Nowhere A names.between addresses in
     let same : SameAt message path now middle =
     same_then message path now names.after middle (leads_same message t laws now added0 added1 changes0 changes1 Nowhere N b names path (λ h. h)) (leads_same message t laws names.after added1 added2 changes1 changes2 Nowhere A names.between addresses path (λ h. h)) in
     let named : HasName middle.shared.field_names name field.name = keeps.names name field.name names.holds in
@@ -127,9 +127,9 @@ pub fields_step : (laws : RowLaws) (message : ℕ) (t : TableRows) (path : List 
     → Leads message t now added0 changes0 (Here path) (IsAdded message path place field now) added1 changes1 → Leads message t now added0 changes0 (Here path) (λ after. HasSome after message path (fields ++ field ∷ [])) added1 changes1
 fields_step laws message t path fields place field now added0 added1 changes0 changes1 e b some step =
     let P : TableRows → Type 0 = IsAdded message path place field now in
-    let keeps : Keeps now.shared step.after.shared = leads_keeps message t laws now added0 added1 changes0 changes1 (Here path) P b step in
+    let keeps : Keeps (stored_by in_row now) (stored_by in_row step.after) = leads_keeps message t laws now added0 added1 changes0 changes1 (Here path) P b step in
     let rows = fields_at message path now.mails.header_fields in
-    let stay : AreFieldRows step.after message path 0 fields rows = rows_stay now step.after keeps message path 0 fields rows (λ other le. step.holds.others other (λ q. absurd (omega (arith, le, e, q)))) some.1 in
+    let stay : AreFieldRows step.after message path 0 fields rows = rows_stay (stored_by in_row now) (stored_by in_row step.after) keeps message path 0 fields rows (λ other le. step.holds.others other (λ q. absurd (omega (arith, le, e, q)))) some.1 in
     let all : AreFieldRows step.after message path 0 (fields ++ field ∷ []) (rows ++ step.holds.row ∷ []) =
     rows_and step.after message path 0 fields rows field step.holds.row stay (subst (λ n. IsFieldRow step.after message path n field step.holds.row) (omega (arith, e)) step.holds.is) in
     leads_so message t now added0 added1 changes0 changes1 (Here path) (Here path) P (λ after. HasSome after message path (fields ++ field ∷ [])) (λ p h. h) step

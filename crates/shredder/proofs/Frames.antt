@@ -1,19 +1,17 @@
 -- What changes leave as it was.
-use Rattle.std.proofs.Common.{◌≡◌, ◌≢◌, ◌⊎◌, ℕ, Bool, true, false, cond, ◌&&◌, ◌==◌, nat_eq, List, [], ◌∷◌, ◌++◌, Option, Some, None, refl, sym, ap, ◌∙◌, subst, inl, inr}
-use mathlib.Core.Bool.{true≢false}
+use Rattle.std.proofs.Common.{◌≡◌, ◌≢◌, ◌⊎◌, ℕ, Bool, true, false, cond, ◌&&◌, ◌==◌, nat_eq, List, [], ◌∷◌, ◌++◌, Some, refl, sym, ap, ◌∙◌, subst, inl, inr}
 use borrow.Author.Tests.{eqb-true}
 use Rattle.std.proofs.lemmas.Bool.{and_parts, and_from}
 use Rattle.std.specs.Option.{option_map}
-use Rattle.std.specs.List.{AllByRecursion, filter, find}
+use Rattle.std.specs.List.{AllByRecursion, filter}
 use Rattle.std.specs.Cmp.Lexicographic.{pointwise, bytes_decides}
 use Rattle.sha2.specs.Sha256.{sha256}
 use Rattle.ordered_rows.specs.RowKey.{RowKey, same_key, number_key}
-use Rattle.ordered_rows.specs.Listed.{IsInOrder, has_key, row_at, with_row}
-use Rattle.ordered_rows.specs.InsertLaws.{InsertLaws}
-use Rattle.row_tables.specs.Keys.{part_key, field_key, message_key, body_part_key, part_number_key, field_name_key, header_field_key, address_key, address_field_key, date_field_key, message_id_key, unparsed_message_key}
+use Rattle.ordered_rows.specs.Listed.{row_at, with_row}
+use Rattle.row_tables.specs.Keys.{part_key, field_key, message_key, body_part_key, part_number_key, field_name_key, header_field_key, address_key, date_field_key, unparsed_message_key}
 use Rattle.row_tables.specs.Indexes.{has_name, has_address}
 use Rattle.row_tables.specs.TableRows.{TableRows, SharedRows}
-use Rattle.row_tables.specs.References.{AreOrdered, fields_of, fields_at, addresses_at, ids_at}
+use Rattle.row_tables.specs.References.{AreOrdered, fields_at}
 use Rattle.row_tables.specs.Fits.{Fits, applied, Runs}
 use Rattle.row_tables.specs.declared.mails.HeaderField.{HeaderField}
 use Rattle.row_tables.specs.declared.contents.BodyPart.{BodyPart}
@@ -21,11 +19,12 @@ use Rattle.row_tables.specs.declared.contents.FieldName.{FieldName}
 use Rattle.row_tables.specs.declared.contents.AddressRow.{AddressRow}
 use Rattle.row_tables.specs.declared.change.RowChange.{RowChange}
 use Rattle.row_tables.specs.declared.change.RowChange.TheVariants.{InsertMessageRow, InsertBodyPart, InsertPartNumber, InsertFieldName, InsertHeaderField, InsertAddressRow, InsertAddressField, InsertDateField, InsertMessageId, InsertUnparsedMessage}
+use Rattle.row_store.specs.Holding.{Stored, stored_by, in_row}
 use Rattle.shredder.specs.MessageRows.{AddressTexts, texts_in, HasName, HasAddress, HasContent, HasBytes}
 use Rattle.shredder.specs.Distinct.{AreDistinct, Keeps}
 use Rattle.shredder.specs.Shredding.{SameAt, SameMessage}
-use Rattle.shredder.specs.Making.{RowLaws, Suits, Makes, IsAt, SameValues}
-use Rattle.shredder.proofs.Lookups.{SameKeys, some_none, mapped_some, kept, read_now, still_apart, finds_none, lacking}
+use Rattle.shredder.specs.Making.{RowLaws, RowHasBytes, Suits, Makes, IsAt, SameValues}
+use Rattle.shredder.proofs.Lookups.{SameKeys, kept, read_now, still_apart, lacking}
 
 pub same_keys : RowLaws → SameKeys
 same_keys laws = record { same = laws.same }
@@ -296,11 +295,16 @@ others_same laws message other n t changes after ordered made =
 
 -- ---- rows that messages share
 
-keeps_itself : (t : TableRows) → Keeps t.shared t.shared
-keeps_itself t = record { names = λ id name h. h; addresses = λ id texts h. h; bodies = λ id bytes h. h }
+-- what messages share is the same in both
+keeps_same : (t u : TableRows) → u.shared ≡ t.shared → Keeps (stored_by in_row t) (stored_by in_row u)
+keeps_same t u e = record {
+  names = λ id name h. subst (λ (s : SharedRows). HasName s.field_names id name) (sym e) h;
+  addresses = λ id texts h. subst (λ (s : SharedRows). HasAddress s.addresses id texts) (sym e) h;
+  bodies = λ id bytes h. subst (λ (s : SharedRows). RowHasBytes s.bodyparts id bytes) (sym e) h;
+}
 
-keeps_step : (laws : RowLaws) (message : ℕ) (t : TableRows) (change : RowChange) → Fits t change → Suits message t change → Keeps t.shared (applied t change).shared
-keeps_step laws message t (InsertMessageRow r) fits suits = keeps_itself t
+keeps_step : (laws : RowLaws) (message : ℕ) (t : TableRows) (change : RowChange) → Fits t change → Suits message t change → Keeps (stored_by in_row t) (stored_by in_row (applied t change))
+keeps_step laws message t (InsertMessageRow r) fits suits = keeps_same t (applied t (InsertMessageRow r)) refl
 keeps_step laws message t (InsertBodyPart r) fits suits = record {
   names = λ id name h. h;
   addresses = λ id texts h. h;
@@ -309,41 +313,36 @@ keeps_step laws message t (InsertBodyPart r) fits suits = record {
     kept body_part_key (λ x. x.digest) (same_keys laws) laws.bodyparts r t.shared.bodyparts id (sha256 bytes) fits.1 h.1,
   );
 }
-keeps_step laws message t (InsertPartNumber r) fits suits = keeps_itself t
+keeps_step laws message t (InsertPartNumber r) fits suits = keeps_same t (applied t (InsertPartNumber r)) refl
 keeps_step laws message t (InsertFieldName r) fits suits = record {
   names = λ id name h. kept field_name_key (λ x. x.name) (same_keys laws) laws.field_names r t.shared.field_names id name fits.1 h;
   addresses = λ id texts h. h;
   bodies = λ id bytes h. h;
 }
-keeps_step laws message t (InsertHeaderField r) fits suits = keeps_itself t
+keeps_step laws message t (InsertHeaderField r) fits suits = keeps_same t (applied t (InsertHeaderField r)) refl
 keeps_step laws message t (InsertAddressRow r) fits suits = record {
   names = λ id name h. h;
   addresses = λ id texts h. kept address_key texts_in (same_keys laws) laws.addresses r t.shared.addresses id texts fits.3 h;
   bodies = λ id bytes h. h;
 }
-keeps_step laws message t (InsertAddressField r) fits suits = keeps_itself t
-keeps_step laws message t (InsertDateField r) fits suits = keeps_itself t
-keeps_step laws message t (InsertMessageId r) fits suits = keeps_itself t
-keeps_step laws message t (InsertUnparsedMessage r) fits suits = keeps_itself t
+keeps_step laws message t (InsertAddressField r) fits suits = keeps_same t (applied t (InsertAddressField r)) refl
+keeps_step laws message t (InsertDateField r) fits suits = keeps_same t (applied t (InsertDateField r)) refl
+keeps_step laws message t (InsertMessageId r) fits suits = keeps_same t (applied t (InsertMessageId r)) refl
+keeps_step laws message t (InsertUnparsedMessage r) fits suits = keeps_same t (applied t (InsertUnparsedMessage r)) refl
 keeps_step laws message t _ fits suits = absurd suits
 
-pub keeps_then : (t u v : SharedRows) → Keeps t u → Keeps u v → Keeps t v
+pub keeps_then : (t u v : Stored) → Keeps t u → Keeps u v → Keeps t v
 keeps_then t u v a b = record {
   names = λ id name h. b.names id name (a.names id name h);
   addresses = λ id texts h. b.addresses id texts (a.addresses id texts h);
   bodies = λ id bytes h. b.bodies id bytes (a.bodies id bytes h);
 }
 
-pub keeps_along : (laws : RowLaws) (message : ℕ) (t : TableRows) (changes : List RowChange) (after : TableRows) → AreOrdered t → Makes message t changes after → Keeps t.shared after.shared
+pub keeps_along : (laws : RowLaws) (message : ℕ) (t : TableRows) (changes : List RowChange) (after : TableRows) → AreOrdered t → Makes message t changes after → Keeps (stored_by in_row t) (stored_by in_row after)
 keeps_along laws message t changes after ordered made =
-    along laws message (λ u v. Keeps u.shared v.shared) keeps_itself (λ u v w a b. keeps_then u.shared v.shared w.shared a b) (λ change. Unit {0}) (λ u change o fits suits m. keeps_step laws message u change fits suits) t changes after ordered (any_all changes) made
+    along laws message (λ u v. Keeps (stored_by in_row u) (stored_by in_row v)) (λ u. keeps_same u u refl) (λ u v w a b. keeps_then (stored_by in_row u) (stored_by in_row v) (stored_by in_row w) a b) (λ change. Unit {0}) (λ u change o fits suits m. keeps_step laws message u change fits suits) t changes after ordered (any_all changes) made
 
 -- ---- they stay distinct
-
-pub with_digest : (rows : List BodyPart) (i : ℕ) (bytes : List ℕ) → ((i : ℕ) (r : BodyPart) → row_at body_part_key (number_key i) rows ≡ Some r → r.digest ≡ sha256 r.content) → HasContent rows i bytes → HasBytes rows i bytes
-with_digest rows i bytes digests h =
-    let found = mapped_some (λ (r : BodyPart). r.content) (row_at body_part_key (number_key i) rows) bytes h in
-    (h, ap (option_map (λ (r : BodyPart). r.digest)) found.1 ∙ ap Some (digests i found.0 found.1 ∙ ap sha256 found.2))
 
 abbrev pub has_texts : AddressTexts → AddressRow → Bool
 has_texts a r = has_address a.name a.local a.domain r
@@ -370,21 +369,29 @@ name_sound a r e = (bytes_decides r.name a).0 e
 pub name_complete : (a : List ℕ) (r : FieldName) → r.name ≡ a → has_name a r ≡ true
 name_complete a r e = (bytes_decides r.name a).1 e
 
-distinct_step : (laws : RowLaws) (message : ℕ) (t : TableRows) (change : RowChange) → Fits t change → Suits message t change → AreDistinct t.shared → AreDistinct (applied t change).shared
-distinct_step laws message t (InsertMessageRow r) fits suits d = d
+distinct_same : (t u : TableRows) → u.shared ≡ t.shared → AreDistinct (stored_by in_row t) → AreDistinct (stored_by in_row u)
+distinct_same t u e d = subst (λ (s : SharedRows). AreDistinct (stored_by in_row (record u { shared = s }))) (sym e) (record { names = d.names; addresses = d.addresses; contents = d.contents; digests = d.digests })
+
+distinct_step : (laws : RowLaws) (message : ℕ) (t : TableRows) (change : RowChange) → Fits t change → Suits message t change → AreDistinct (stored_by in_row t) → AreDistinct (stored_by in_row (applied t change))
+distinct_step laws message t (InsertMessageRow r) fits suits d = distinct_same t (applied t (InsertMessageRow r)) refl d
 distinct_step laws message t (InsertBodyPart r) fits suits d = record {
   names = d.names;
   addresses = d.addresses;
-  contents = still_apart body_part_key (λ x. x.content) (same_keys laws) laws.bodyparts r t.shared.bodyparts r.id refl (λ i h. suits.1 i (with_digest t.shared.bodyparts i r.content d.digests h)) d.contents;
+  contents = still_apart body_part_key (λ x. x.content) (same_keys laws) laws.bodyparts r t.shared.bodyparts r.id refl (λ i h. suits.1 i (d.digests i r.content h)) d.contents;
   digests = digests;
 }
   where
-    digests : (i : ℕ) (x : BodyPart) → row_at body_part_key (number_key i) (with_row body_part_key r t.shared.bodyparts) ≡ Some x → x.digest ≡ sha256 x.content
-    digests i x e = elim (read_now body_part_key (λ (y : BodyPart). y) (same_keys laws) laws.bodyparts r t.shared.bodyparts i x (ap (option_map (λ (y : BodyPart). y)) e)) [
-      | inl here ↦ ap (λ (y : BodyPart). y.digest) (sym here.1) ∙ suits.0 ∙ ap (λ (y : BodyPart). sha256 y.content) here.1
-      | inr there ↦ let found = mapped_some (λ (y : BodyPart). y) (row_at body_part_key (number_key i) t.shared.bodyparts) x there in d.digests i x (found.1 ∙ ap Some found.2)
-    ]
-distinct_step laws message t (InsertPartNumber r) fits suits d = d
+    rows : List BodyPart
+    rows = with_row body_part_key r t.shared.bodyparts
+
+    digests : (i : ℕ) (bytes : List ℕ) → HasContent (stored_by in_row (applied t (InsertBodyPart r))) i bytes → HasBytes (stored_by in_row (applied t (InsertBodyPart r))) i bytes
+    digests i bytes h = (h, by (read_now body_part_key in_row (same_keys laws) laws.bodyparts r t.shared.bodyparts i bytes h))
+      where
+        by : ((body_part_key r ≡ number_key i) × (in_row r ≡ bytes)) ⊎ HasContent (stored_by in_row t) i bytes → option_map (λ (x : BodyPart). x.digest) (row_at body_part_key (number_key i) rows) ≡ Some (sha256 bytes)
+        by (inl here) = subst (λ k. option_map (λ (x : BodyPart). x.digest) (row_at body_part_key k rows) ≡ Some (sha256 bytes)) here.0
+            (ap (option_map (λ (x : BodyPart). x.digest)) (laws.bodyparts.same r t.shared.bodyparts) ∙ ap Some (suits.0 ∙ ap sha256 here.1))
+        by (inr there) = kept body_part_key (λ x. x.digest) (same_keys laws) laws.bodyparts r t.shared.bodyparts i (sha256 bytes) fits.1 (d.digests i bytes there).1
+distinct_step laws message t (InsertPartNumber r) fits suits d = distinct_same t (applied t (InsertPartNumber r)) refl d
 distinct_step laws message t (InsertFieldName r) fits suits d = record {
   names = still_apart field_name_key (λ x. x.name) (same_keys laws) laws.field_names r t.shared.field_names r.id refl
       (lacking field_name_key (λ x. x.name) laws.field_names has_name name_sound name_complete (λ x. x.id) (λ x. refl) t.shared.field_names r.name (ap (option_map (λ (x : FieldName). x.id)) fits.2)) d.names;
@@ -392,7 +399,7 @@ distinct_step laws message t (InsertFieldName r) fits suits d = record {
   contents = d.contents;
   digests = d.digests;
 }
-distinct_step laws message t (InsertHeaderField r) fits suits d = d
+distinct_step laws message t (InsertHeaderField r) fits suits d = distinct_same t (applied t (InsertHeaderField r)) refl d
 distinct_step laws message t (InsertAddressRow r) fits suits d = record {
   names = d.names;
   addresses = still_apart address_key texts_in (same_keys laws) laws.addresses r t.shared.addresses r.id refl
@@ -400,12 +407,12 @@ distinct_step laws message t (InsertAddressRow r) fits suits d = record {
   contents = d.contents;
   digests = d.digests;
 }
-distinct_step laws message t (InsertAddressField r) fits suits d = d
-distinct_step laws message t (InsertDateField r) fits suits d = d
-distinct_step laws message t (InsertMessageId r) fits suits d = d
-distinct_step laws message t (InsertUnparsedMessage r) fits suits d = d
+distinct_step laws message t (InsertAddressField r) fits suits d = distinct_same t (applied t (InsertAddressField r)) refl d
+distinct_step laws message t (InsertDateField r) fits suits d = distinct_same t (applied t (InsertDateField r)) refl d
+distinct_step laws message t (InsertMessageId r) fits suits d = distinct_same t (applied t (InsertMessageId r)) refl d
+distinct_step laws message t (InsertUnparsedMessage r) fits suits d = distinct_same t (applied t (InsertUnparsedMessage r)) refl d
 distinct_step laws message t _ fits suits d = absurd suits
 
-pub distinct_along : (laws : RowLaws) (message : ℕ) (t : TableRows) (changes : List RowChange) (after : TableRows) → AreOrdered t → Makes message t changes after → AreDistinct t.shared → AreDistinct after.shared
+pub distinct_along : (laws : RowLaws) (message : ℕ) (t : TableRows) (changes : List RowChange) (after : TableRows) → AreOrdered t → Makes message t changes after → AreDistinct (stored_by in_row t) → AreDistinct (stored_by in_row after)
 distinct_along laws message t changes after ordered made =
-    along laws message (λ u v. AreDistinct u.shared → AreDistinct v.shared) (λ u d. d) (λ u v w a b d. b (a d)) (λ change. Unit {0}) (λ u change o fits suits m. distinct_step laws message u change fits suits) t changes after ordered (any_all changes) made
+    along laws message (λ u v. AreDistinct (stored_by in_row u) → AreDistinct (stored_by in_row v)) (λ u d. d) (λ u v w a b d. b (a d)) (λ change. Unit {0}) (λ u change o fits suits m. distinct_step laws message u change fits suits) t changes after ordered (any_all changes) made

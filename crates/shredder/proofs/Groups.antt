@@ -1,16 +1,15 @@
 -- Rows that are added behind those of their group.
-use Rattle.std.proofs.Common.{◌≡◌, ℕ, ◌+◌, ◌<◌, ◌≤◌, Bool, true, false, cond, ◌==◌, nat_lt, List, [], ◌∷◌, ◌++◌, Option, Some, None, refl, sym, ap, ◌∙◌, subst, arith}
+use Rattle.std.proofs.Common.{◌≡◌, ℕ, ◌+◌, ◌<◌, ◌≤◌, Bool, true, false, cond, ◌==◌, nat_lt, List, [], ◌∷◌, ◌++◌, Some, None, refl, sym, ap, ◌∙◌, subst, arith}
 use mathlib.Core.Bool.{true≢false}
 use Rattle.std.proofs.lemmas.Bool.{le-ltb}
 use Rattle.std.proofs.lemmas.List.{append-nil, append_assoc}
-use Rattle.std.specs.declared.cmp.Ordering.{Ordering}
 use Rattle.std.specs.declared.cmp.Ordering.TheVariants.{Less, Equal, Greater}
 use Rattle.std.specs.Ordering.{nat_cmp, ordering_then, is_lt}
 use Rattle.std.specs.Cmp.{nat_cmp_total, tied_itself}
 use Rattle.std.specs.Cmp.Lexicographic.{slice_cmp, nat_list_cmp_total}
 use Rattle.std.specs.List.{AllByRecursion, filter, find}
-use Rattle.ordered_rows.specs.RowKey.{RowKey, key_cmp, same_key}
-use Rattle.ordered_rows.specs.Listed.{IsInOrder, has_key, is_below, row_at, with_row}
+use Rattle.ordered_rows.specs.RowKey.{RowKey, key_cmp}
+use Rattle.ordered_rows.specs.Listed.{has_key, is_below, row_at, with_row}
 use Rattle.ordered_rows.specs.InsertLaws.{InsertLaws}
 use Rattle.shredder.specs.Making.{RowLaws}
 use Rattle.shredder.proofs.Lookups.{find_among}

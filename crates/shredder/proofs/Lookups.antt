@@ -1,10 +1,10 @@
 -- What look-ups find after insertions.
-use Rattle.std.proofs.Common.{◌≡◌, ◌⊎◌, ◌+◌, ◌<◌, ℕ, Bool, true, false, cond, nat_lt, List, [], ◌∷◌, ◌++◌, Option, Some, None, refl, sym, ap, ◌∙◌, subst, inl, inr}
+use Rattle.std.proofs.Common.{◌≡◌, ◌⊎◌, ℕ, Bool, true, false, cond, List, [], ◌∷◌, Option, Some, None, refl, sym, ap, ◌∙◌, subst, inl, inr}
 use mathlib.Core.Bool.{true≢false}
 use Rattle.std.specs.Option.{option_map}
-use Rattle.std.specs.List.{AllByRecursion, filter, find}
+use Rattle.std.specs.List.{filter, find}
 use Rattle.ordered_rows.specs.RowKey.{RowKey, same_key, number_key}
-use Rattle.ordered_rows.specs.Listed.{IsInOrder, has_key, is_below, row_at, with_row}
+use Rattle.ordered_rows.specs.Listed.{IsInOrder, has_key, row_at, with_row}
 use Rattle.ordered_rows.specs.InsertLaws.{InsertLaws}
 use Rattle.shredder.specs.Making.{IsUnion}
 

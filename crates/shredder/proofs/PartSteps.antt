@@ -1,7 +1,5 @@
 -- The row of one part.
 use Rattle.std.proofs.Common.{◌≡◌, ℕ, ◌<◌, ◌≤◌, List, [], ◌∷◌, ◌++◌, Some, None, IsSome, is_some, refl, sym, ap, ◌∙◌, subst, arith}
-use mathlib.Core.Bool.{true≢false}
-use Rattle.std.specs.Option.{option_map}
 use Rattle.ordered_rows.specs.RowKey.{RowKey, number_key}
 use Rattle.ordered_rows.specs.Listed.{row_at}
 use Rattle.row_tables.specs.Keys.{part_key, body_part_key, part_number_key, header_field_key}
@@ -12,9 +10,10 @@ use Rattle.row_tables.specs.declared.mails.PartNumber.{PartNumber}
 use Rattle.row_tables.specs.declared.contents.BodyPart.{BodyPart}
 use Rattle.row_tables.specs.declared.change.RowChange.{RowChange}
 use Rattle.row_tables.specs.declared.change.RowChange.TheVariants.{InsertPartNumber}
-use Rattle.shredder.specs.MessageRows.{HasBytes, HasLeaf, HasInner, HasNothing, part_at}
+use Rattle.row_store.specs.Holding.{stored_by, in_row}
+use Rattle.shredder.specs.MessageRows.{HasLeaf, HasInner, HasNothing, part_at}
 use Rattle.shredder.specs.Shredding.{SameAt}
-use Rattle.shredder.specs.Making.{RowLaws, Nowhere, Here, Between, Leads}
+use Rattle.shredder.specs.Making.{RowLaws, RowHasBytes, Nowhere, Here, Between, Leads}
 use Rattle.shredder.proofs.Lookups.{mapped_some}
 use Rattle.shredder.proofs.Frames.{is_field_at, fields_by_test}
 use Rattle.shredder.proofs.Groups.{none_pass, none_found}
@@ -60,12 +59,12 @@ module _ (laws : RowLaws) (message : ℕ) (t : TableRows) (path : List ℕ) (kin
       record { after = step.after; more = step.more; grown = step.grown; made = step.made; within = step.within; between = step.between; holds = (step.holds.1, step.holds.2) }
 
   pub leaf_step : (now added0 added1 : TableRows) (changes0 changes1 changes2 : List RowChange) (body : ℕ) (bytes : List ℕ) → Between message t added0 now → part_at now message path ≡ None
-      → Leads message t now added0 changes0 Nowhere (λ after. HasBytes after.shared.bodyparts body bytes) added1 changes1
+      → Leads message t now added0 changes0 Nowhere (λ after. RowHasBytes after.shared.bodyparts body bytes) added1 changes1
       → changes2 ≡ changes1 ++ InsertPartNumber (record { message = message; path = path; kind = kind; body = body }) ∷ []
-      → Leads message t now added0 changes0 (Here path) (λ after. HasLeaf after message path kind bytes × (fields_at message path after.mails.header_fields ≡ [])) added1 changes2
+      → Leads message t now added0 changes0 (Here path) (λ after. HasLeaf (stored_by in_row after) message path kind bytes × (fields_at message path after.mails.header_fields ≡ [])) added1 changes2
   leaf_step now added0 added1 changes0 changes1 changes2 body bytes b none first e =
-      let B : TableRows → Type 0 = λ after. HasBytes after.shared.bodyparts body bytes in
-      let L : TableRows → Type 0 = λ after. HasLeaf after message path kind bytes × (fields_at message path after.mails.header_fields ≡ []) in
+      let B : TableRows → Type 0 = λ after. RowHasBytes after.shared.bodyparts body bytes in
+      let L : TableRows → Type 0 = λ after. HasLeaf (stored_by in_row after) message path kind bytes × (fields_at message path after.mails.header_fields ≡ []) in
       let same : SameAt message path now first.after = leads_same message t laws now added0 added1 changes0 changes1 Nowhere B b first path (λ h. h) in
       let it = mapped_some (λ (r : BodyPart). r.content) (row_at body_part_key (number_key body) first.after.shared.bodyparts) bytes first.holds.0 in
       let step = part_step first.after added1 changes1 changes2 body first.between (same.part ∙ none) (λ lt. ap is_some it.1) e in
@@ -76,6 +75,6 @@ module _ (laws : RowLaws) (message : ℕ) (t : TableRows) (path : List ℕ) (kin
         made = step.made;
         within = step.within;
         between = step.between;
-        holds = (record { body = body; part = step.holds.1; bytes_are = subst (λ s. HasBytes s.bodyparts body bytes) (sym step.holds.0) first.holds }, step.holds.2);
+        holds = (record { body = body; part = step.holds.1; bytes_are = subst (λ s. RowHasBytes s.bodyparts body bytes) (sym step.holds.0) first.holds }, step.holds.2);
       } in
       leads_then message t now added0 added1 added1 changes0 changes1 changes2 Nowhere (Here path) (Here path) B L (λ p h. absurd h) (λ p h. h) first second

@@ -1,5 +1,5 @@
 -- Bodies that are placed.
-use Rattle.std.proofs.Common.{◌≡◌, ◌⊎◌, ℕ, zero, suc, ◌<◌, Bool, true, false, cond, ◌||◌, ◌==◌, List, [], ◌∷◌, ◌++◌, Option, Some, None, inl, inr, refl, sym, ap, ◌∙◌, subst, arith}
+use Rattle.std.proofs.Common.{◌≡◌, ◌⊎◌, ℕ, zero, suc, Bool, true, false, cond, ◌||◌, ◌==◌, List, [], ◌∷◌, ◌++◌, Option, Some, None, inl, inr, refl, sym, ap, ◌∙◌, subst, arith}
 use mathlib.Core.Bool.{true≢false}
 use borrow.Author.Tests.{eqb-true}
 use Rattle.std.proofs.lemmas.Bool.{eq-eqb}
@@ -18,8 +18,7 @@ use Rattle.row_tables.specs.declared.change.RowChange.{RowChange}
 use Rattle.row_tables.specs.declared.change.RowChange.TheVariants.{InsertMessageRow, InsertBodyPart, InsertPartNumber, InsertFieldName, InsertHeaderField, InsertAddressRow, InsertAddressField, InsertDateField, InsertMessageId, InsertUnparsedMessage}
 use Rattle.row_store.specs.Holding.{in_row}
 use Rattle.row_store.specs.Bodies.{ArePlaced, IsPlaced, IsThere, IsNewBody, HasBytes as BodyHasBytes}
-use Rattle.shredder.specs.MessageRows.{HasBytes}
-use Rattle.shredder.specs.Making.{RowLaws, LacksBytes, HaveIds, IsUnion, Suits, Makes, Nowhere, Between, Leads, holding}
+use Rattle.shredder.specs.Making.{RowLaws, RowHasBytes, LacksBytes, HaveIds, IsUnion, Suits, Makes, Nowhere, Between, Leads, holding}
 use Rattle.shredder.proofs.Lookups.{some_none, some_same, mapped_some, find_passes, lacks_both, union_grown}
 use Rattle.shredder.proofs.Frames.{same_keys}
 use Rattle.shredder.proofs.Steps.{body_first, body_second}
@@ -73,13 +72,13 @@ module _ (placed : List BodyPart) (new : BodyPart) where
 
 -- ---- a body that has the bytes
 
-has_bytes : (rows : List BodyPart) (body : BodyPart) (id : ℕ) (bytes : List ℕ) → row_at body_part_key (number_key body.id) rows ≡ Some body → body.id ≡ id → BodyHasBytes in_row body bytes → HasBytes rows id bytes
+has_bytes : (rows : List BodyPart) (body : BodyPart) (id : ℕ) (bytes : List ℕ) → row_at body_part_key (number_key body.id) rows ≡ Some body → body.id ≡ id → BodyHasBytes in_row body bytes → RowHasBytes rows id bytes
 has_bytes rows body id bytes e at has =
     let here : row_at body_part_key (number_key id) rows ≡ Some body = subst (λ i. row_at body_part_key (number_key i) rows ≡ Some body) at e in
     (ap (option_map (λ (r : BodyPart). r.content)) here ∙ ap Some has.0, ap (option_map (λ (r : BodyPart). r.digest)) here ∙ ap Some has.1)
 
 -- the body that is found by an id with the bytes
-body_at : (rows : List BodyPart) (id : ℕ) (bytes : List ℕ) → HasBytes rows id bytes → (r : BodyPart) × (row_at body_part_key (number_key id) rows ≡ Some r) × (r.id ≡ id) × BodyHasBytes in_row r bytes
+body_at : (rows : List BodyPart) (id : ℕ) (bytes : List ℕ) → RowHasBytes rows id bytes → (r : BodyPart) × (row_at body_part_key (number_key id) rows ≡ Some r) × (r.id ≡ id) × BodyHasBytes in_row r bytes
 body_at rows id bytes h =
     let it = mapped_some (λ (r : BodyPart). r.content) (row_at body_part_key (number_key id) rows) bytes h.0 in
     let digest : it.0.digest ≡ sha256 bytes = some_same it.0.digest (sha256 bytes) (sym (ap (option_map (λ (r : BodyPart). r.digest)) it.1) ∙ h.1) in
@@ -94,10 +93,10 @@ module _ (rows placed : List BodyPart) (bytes : List ℕ) (lacking : (other : Bo
 
 module _ (message : ℕ) (t : TableRows) (laws : RowLaws) where
   pub body_found : (now added : TableRows) (placed : List BodyPart) (bytes : List ℕ) (id : ℕ) → Between message t (holding added placed) now → HaveIds placed
-      → ((body : BodyPart) × IsThere t.shared.bodyparts placed body × (body.id ≡ id) × BodyHasBytes in_row body bytes) → HasBytes now.shared.bodyparts id bytes
+      → ((body : BodyPart) × IsThere t.shared.bodyparts placed body × (body.id ≡ id) × BodyHasBytes in_row body bytes) → RowHasBytes now.shared.bodyparts id bytes
   body_found now added placed bytes id b ids it = by it.1
     where
-      by : IsThere t.shared.bodyparts placed it.0 → HasBytes now.shared.bodyparts id bytes
+      by : IsThere t.shared.bodyparts placed it.0 → RowHasBytes now.shared.bodyparts id bytes
       by (inl e) = body_first message t laws now (holding added placed) bytes id b (has_bytes t.shared.bodyparts it.0 id bytes e it.2 it.3)
       by (inr c) = body_second message t laws now (holding added placed) bytes id b (has_bytes placed it.0 id bytes (ids it.0 c) it.2 it.3)
 
@@ -110,12 +109,12 @@ module _ (message : ℕ) (t : TableRows) (laws : RowLaws) where
       let it = mapped_some both_of (row_at body_part_key (number_key id) rows) (bytes, digest) h in
       (ap (option_map (λ (r : BodyPart). r.content)) it.1 ∙ ap Some (ap (λ (x : List ℕ × List ℕ). x.0) it.2), ap (option_map (λ (r : BodyPart). r.digest)) it.1 ∙ ap Some (ap (λ (x : List ℕ × List ℕ). x.1) it.2))
 
-  as_both : (rows : List BodyPart) (id : ℕ) (bytes : List ℕ) → HasBytes rows id bytes → option_map both_of (row_at body_part_key (number_key id) rows) ≡ Some (bytes, sha256 bytes)
+  as_both : (rows : List BodyPart) (id : ℕ) (bytes : List ℕ) → RowHasBytes rows id bytes → option_map both_of (row_at body_part_key (number_key id) rows) ≡ Some (bytes, sha256 bytes)
   as_both rows id bytes h = let it = body_at rows id bytes h in ap (option_map both_of) it.1 ∙ ap (λ x. Some (x, it.0.digest)) it.3.0 ∙ ap (λ x. Some (bytes, x)) it.3.1
 
   pub body_added : (now added : TableRows) (placed : List BodyPart) (changes changes_after : List RowChange) (bytes : List ℕ) (new : BodyPart) → Between message t (holding added placed) now → IsText bytes
       → IsNewBody in_row t.shared.bodyparts placed bytes new → changes_after ≡ changes ++ InsertBodyPart new ∷ []
-      → Leads message t now (holding added placed) changes Nowhere (λ after. HasBytes after.shared.bodyparts new.id bytes) (holding added (placed ++ new ∷ [])) changes_after
+      → Leads message t now (holding added placed) changes Nowhere (λ after. RowHasBytes after.shared.bodyparts new.id bytes) (holding added (placed ++ new ∷ [])) changes_after
   body_added now added placed changes changes_after bytes new b text is e =
       let free = lacks_id new.id placed is.not_placed in
       let now_lacks : LacksBytes now.shared.bodyparts bytes = λ i h. lacks_both body_part_key both_of t.shared.bodyparts placed now.shared.bodyparts b.bodies (bytes, sha256 bytes)

@@ -1,10 +1,9 @@
 -- The changes of one mail, all together.
-use Rattle.std.proofs.Common.{◌≡◌, ◌≢◌, ℕ, ◌≤◌, Bool, true, false, ◌==◌, List, [], ◌∷◌, ◌++◌, length, Option, Some, None, IsSome, is_some, refl, sym, ap, ◌∙◌, subst}
+use Rattle.std.proofs.Common.{◌≡◌, ℕ, ◌==◌, List, [], ◌∷◌, ◌++◌, length, Option, Some, None, is_some, refl, sym, ap, ◌∙◌, subst}
 use mathlib.Core.Bool.{true≢false}
-use Rattle.std.proofs.lemmas.List.{append_assoc}
 use Rattle.std.proofs.lemmas.Bool.{eq-eqb}
 use Rattle.std.specs.Option.{option_map}
-use Rattle.std.specs.List.{AllByRecursion, filter, find}
+use Rattle.std.specs.List.{AllByRecursion, find}
 use Rattle.mime_tree.specs.declared.reasons.Mail.{Mail}
 use Rattle.mime_tree.specs.declared.reasons.Reason.{Reason}
 use Rattle.canon_writer.specs.Printing.{print}
@@ -12,20 +11,20 @@ use Rattle.ordered_rows.specs.RowKey.{RowKey, number_key}
 use Rattle.ordered_rows.specs.Listed.{has_key, row_at}
 use Rattle.row_tables.specs.Keys.{part_key, message_key, body_part_key, part_number_key, field_name_key, address_key, unparsed_message_key}
 use Rattle.row_tables.specs.TableRows.{TableRows, no_rows}
-use Rattle.row_tables.specs.References.{AreOrdered, AreClosed, IsUnknown, HasMessage, parts_of}
+use Rattle.row_tables.specs.References.{AreOrdered, AreClosed, IsUnknown, HasMessage}
 use Rattle.row_tables.specs.Fits.{applied, Runs}
 use Rattle.row_tables.specs.declared.mails.MessageRow.{MessageRow}
 use Rattle.row_tables.specs.declared.change.RowChange.{RowChange}
 use Rattle.row_tables.specs.declared.change.RowChange.TheVariants.{InsertMessageRow, InsertBodyPart, InsertPartNumber, InsertFieldName, InsertHeaderField, InsertAddressRow, InsertAddressField, InsertDateField, InsertMessageId, InsertUnparsedMessage}
+use Rattle.row_store.specs.Holding.{stored_by, in_row}
 use Rattle.row_store.specs.Bodies.{ArePlaced}
-use Rattle.shredder.specs.Paths.{paths, is_among}
-use Rattle.shredder.specs.MessageRows.{HasNode, HasRows, part_at, unparsed_row}
-use Rattle.shredder.specs.Shredding.{SameAt, Shreds}
+use Rattle.shredder.specs.Paths.{paths}
+use Rattle.shredder.specs.MessageRows.{HasNode, part_at, unparsed_row}
+use Rattle.shredder.specs.Shredding.{Shreds}
 use Rattle.shredder.specs.Making.{RowLaws, Makes, IsAt, Between, Leads, IsOpen, IsUnion, Among, reason_changes}
 use Rattle.shredder.proofs.Lookups.{find_among, union_start}
 use Rattle.shredder.proofs.Apart.{apart_along, regrouped}
-use Rattle.shredder.proofs.Frames.{makes_then, makes_runs, all_joined, others_same, keeps_along, distinct_along, same_along, all_mapped, elsewhere}
-use Rattle.shredder.proofs.Groups.{none_found}
+use Rattle.shredder.proofs.Frames.{makes_then, makes_runs, others_same, keeps_along, distinct_along}
 use Rattle.shredder.proofs.Steps.{ordered_along, closed_along, leads_same}
 use Rattle.shredder.proofs.PlacedBodies.{all_placed}
 use Rattle.shredder.proofs.PartSteps.{nothing_at}
@@ -125,10 +124,10 @@ module _ (laws : RowLaws) (t : TableRows) (ordered : AreOrdered t) (closed : Are
   open_all path under = ap (row_at part_number_key (part_key id path)) (same_parts mail.reason) ∙ no_part path
 
   pub shreds : (added0 added1 : TableRows) (changes0 changes1 : List RowChange) → changes0 ≡ start → Between id t added0 begun
-      → Leads id t begun added0 changes0 (Among (paths [] mail.message)) (λ after. HasNode after id [] mail.message) added1 changes1 → Shreds t id mail changes1
+      → Leads id t begun added0 changes0 (Among (paths [] mail.message)) (λ after. HasNode (stored_by in_row after) id [] mail.message) added1 changes1 → Shreds in_row t id mail changes1
   shreds added0 added1 changes0 changes1 e b l =
       let W : List ℕ → Type 0 = Among (paths [] mail.message) in
-      let P : TableRows → Type 0 = λ after. HasNode after id [] mail.message in
+      let P : TableRows → Type 0 = λ after. HasNode (stored_by in_row after) id [] mail.message in
       let after = l.after in
       let made : Makes id t (start ++ l.more) after = makes_then id t start l.more begun after start_made l.made in
       let all : changes1 ≡ start ++ l.more = l.grown ∙ ap (λ (c : List RowChange). c ++ l.more) e in
@@ -150,7 +149,7 @@ module _ (laws : RowLaws) (t : TableRows) (ordered : AreOrdered t) (closed : Are
 
   -- the bodies that the changes insert are those that were placed
   pub placed_all : (added0 added1 : TableRows) (changes0 changes1 : List RowChange) → changes0 ≡ start
-      → Leads id t begun added0 changes0 (Among (paths [] mail.message)) (λ after. HasNode after id [] mail.message) added1 changes1 → ArePlaced added1.shared.bodyparts changes1
+      → Leads id t begun added0 changes0 (Among (paths [] mail.message)) (λ after. HasNode (stored_by in_row after) id [] mail.message) added1 changes1 → ArePlaced added1.shared.bodyparts changes1
   placed_all added0 added1 changes0 changes1 e l =
       let all : changes1 ≡ start ++ l.more = l.grown ∙ ap (λ (c : List RowChange). c ++ l.more) e in
       subst (ArePlaced added1.shared.bodyparts) (sym all)

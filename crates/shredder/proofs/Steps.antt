@@ -1,27 +1,27 @@
 -- Steps of a list of changes that adds a message.
-use Rattle.std.proofs.Common.{◌≡◌, ◌≢◌, ℕ, Bool, true, false, List, [], ◌∷◌, ◌++◌, Option, Some, None, IsSome, is_some, refl, sym, ap, ◌∙◌, subst}
+use Rattle.std.proofs.Common.{◌≡◌, ℕ, Bool, true, false, List, [], ◌∷◌, ◌++◌, Some, None, IsSome, is_some, refl, sym, ap, ◌∙◌, subst}
 use Rattle.std.proofs.lemmas.List.{append-nil, append_assoc}
 use Rattle.std.specs.Option.{option_map}
-use Rattle.std.specs.List.{AllByRecursion, find}
+use Rattle.std.specs.List.{AllByRecursion}
 use Rattle.sha2.specs.Sha256.{sha256}
-use Rattle.ordered_rows.specs.RowKey.{RowKey, same_key, number_key}
+use Rattle.ordered_rows.specs.RowKey.{same_key, number_key}
 use Rattle.ordered_rows.specs.Listed.{IsInOrder, row_at, with_row}
 use Rattle.row_tables.specs.Keys.{message_key, body_part_key, field_name_key, address_key}
-use Rattle.row_tables.specs.Indexes.{has_name, has_address, field_name_id, address_id}
+use Rattle.row_tables.specs.Indexes.{has_name, field_name_id, address_id}
 use Rattle.row_tables.specs.TableRows.{TableRows}
 use Rattle.row_tables.specs.References.{AreOrdered, AreClosed, HasMessage}
 use Rattle.row_tables.specs.Fits.{IsText, Fits, applied}
-use Rattle.row_tables.specs.declared.mails.MessageRow.{MessageRow}
 use Rattle.row_tables.specs.declared.contents.BodyPart.{BodyPart}
 use Rattle.row_tables.specs.declared.contents.FieldName.{FieldName}
 use Rattle.row_tables.specs.declared.contents.AddressRow.{AddressRow}
 use Rattle.row_tables.specs.declared.change.RowChange.{RowChange}
 use Rattle.row_tables.specs.declared.change.RowChange.TheVariants.{InsertMessageRow, InsertBodyPart, InsertPartNumber, InsertFieldName, InsertHeaderField, InsertAddressRow, InsertAddressField, InsertDateField, InsertMessageId, InsertUnparsedMessage}
-use Rattle.shredder.specs.MessageRows.{AddressTexts, texts_in, HasName, HasAddress, HasContent, HasBytes}
+use Rattle.shredder.specs.MessageRows.{AddressTexts, texts_in, HasName, HasAddress}
+use Rattle.row_store.specs.Holding.{stored_by, in_row}
 use Rattle.shredder.specs.Distinct.{Keeps}
 use Rattle.shredder.specs.Shredding.{SameAt}
-use Rattle.shredder.specs.Making.{RowLaws, LacksBytes, IsUnion, Suits, Makes, IsAt, Nowhere, Between, Leads}
-use Rattle.shredder.proofs.Lookups.{some_none, mapped_some, mapped_none, Lacks, found, lacking, finds_none, reads_first, reads_second, lacks_both, union_more, read_now}
+use Rattle.shredder.specs.Making.{RowLaws, RowHasBytes, IsUnion, Suits, Makes, IsAt, Nowhere, Between, Leads}
+use Rattle.shredder.proofs.Lookups.{Lacks, found, lacking, finds_none, reads_first, reads_second, lacks_both, union_more}
 use Rattle.shredder.proofs.Frames.{same_keys, makes_then, all_joined, all_mapped, at_more, keeps_along, same_along, elsewhere, has_texts, texts_sound, texts_complete, name_sound, name_complete}
 
 -- ---- the message stays there, and the tables whole
@@ -86,7 +86,7 @@ module _ (message : ℕ) (t : TableRows) where
   }
 
   module _ (laws : RowLaws) where
-    pub leads_keeps : (now added0 added1 : TableRows) (changes0 changes1 : List RowChange) (W : List ℕ → Type 0) (P : TableRows → Type 0) → Between message t added0 now → (a : Leads message t now added0 changes0 W P added1 changes1) → Keeps now.shared a.after.shared
+    pub leads_keeps : (now added0 added1 : TableRows) (changes0 changes1 : List RowChange) (W : List ℕ → Type 0) (P : TableRows → Type 0) → Between message t added0 now → (a : Leads message t now added0 changes0 W P added1 changes1) → Keeps (stored_by in_row now) (stored_by in_row a.after)
     leads_keeps now added0 added1 changes0 changes1 W P b a = keeps_along laws message now a.more a.after b.ordered a.made
 
     pub leads_same : (now added0 added1 : TableRows) (changes0 changes1 : List RowChange) (W : List ℕ → Type 0) (P : TableRows → Type 0) → Between message t added0 now → (a : Leads message t now added0 changes0 W P added1 changes1) → (path : List ℕ) → (W path → ⊥)
@@ -193,13 +193,13 @@ module _ (message : ℕ) (t : TableRows) where
 
     -- ---- bodies
 
-    pub body_first : (now added : TableRows) (bytes : List ℕ) (id : ℕ) → Between message t added now → HasBytes t.shared.bodyparts id bytes → HasBytes now.shared.bodyparts id bytes
+    pub body_first : (now added : TableRows) (bytes : List ℕ) (id : ℕ) → Between message t added now → RowHasBytes t.shared.bodyparts id bytes → RowHasBytes now.shared.bodyparts id bytes
     body_first now added bytes id b h = (
       reads_first body_part_key (λ (r : BodyPart). r.content) t.shared.bodyparts added.shared.bodyparts now.shared.bodyparts b.bodies id bytes h.0,
       reads_first body_part_key (λ (r : BodyPart). r.digest) t.shared.bodyparts added.shared.bodyparts now.shared.bodyparts b.bodies id (sha256 bytes) h.1,
     )
 
-    pub body_second : (now added : TableRows) (bytes : List ℕ) (id : ℕ) → Between message t added now → HasBytes added.shared.bodyparts id bytes → HasBytes now.shared.bodyparts id bytes
+    pub body_second : (now added : TableRows) (bytes : List ℕ) (id : ℕ) → Between message t added now → RowHasBytes added.shared.bodyparts id bytes → RowHasBytes now.shared.bodyparts id bytes
     body_second now added bytes id b h = (
       reads_second body_part_key (λ (r : BodyPart). r.content) t.shared.bodyparts added.shared.bodyparts now.shared.bodyparts b.bodies id bytes h.0,
       reads_second body_part_key (λ (r : BodyPart). r.digest) t.shared.bodyparts added.shared.bodyparts now.shared.bodyparts b.bodies id (sha256 bytes) h.1,

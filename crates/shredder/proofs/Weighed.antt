@@ -1,5 +1,5 @@
 -- Light messages fit into rows.
-use Rattle.std.proofs.Common.{◌≡◌, ℕ, ◌+◌, ◌*◌, ◌^◌, ◌<◌, ◌≤◌, List, [], ◌∷◌, ◌++◌, length, length-append, decimal, Result, Ok, Err, refl, arith}
+use Rattle.std.proofs.Common.{◌≡◌, ℕ, ◌+◌, ◌*◌, ◌^◌, ◌<◌, ◌≤◌, List, [], ◌∷◌, length, length-append, decimal, Result, Ok, Err, refl, arith}
 use Rattle.std.proofs.lemmas.Fmt.{length-decimal-le_succ}
 use Rattle.std.specs.List.{AllByRecursion}
 use Rattle.mime_tree.specs.declared.values.Field.{Field}

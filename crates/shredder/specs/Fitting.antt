@@ -1,5 +1,5 @@
 -- Which messages have rows: each text, each path and each list has a length of 32 bits.
-use Rattle.std.specs.Prelude.{ℕ, ◌+◌, ◌≤◌, List, [], ◌∷◌, length}
+use Rattle.std.specs.Prelude.{ℕ, ◌+◌, ◌≤◌, List, [], length}
 use Rattle.std.specs.List.{AllByRecursion}
 use Rattle.mime_tree.specs.declared.values.Field.{Field}
 use Rattle.mime_tree.specs.declared.values.Item.{Item}

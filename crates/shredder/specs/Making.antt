@@ -13,23 +13,23 @@ use Rattle.mime_tree.specs.declared.trees.Encoding.TheVariants.{Plain, Base64}
 use Rattle.mime_tree.specs.Trees.{Tree, Content}
 use Rattle.mime_tree.specs.Trees.Content.{leaf, multi, nested}
 use Rattle.ordered_rows.specs.RowKey.{RowKey, key_cmp, same_key, number_key}
-use Rattle.ordered_rows.specs.Listed.{row_at, with_row}
+use Rattle.ordered_rows.specs.Listed.{row_at}
 use Rattle.ordered_rows.specs.InsertLaws.{InsertLaws}
 use Rattle.row_tables.specs.Keys.{field_key, message_key, body_part_key, part_number_key, field_name_key, header_field_key, address_key, address_field_key, date_field_key, message_id_key, unparsed_message_key}
 use Rattle.row_tables.specs.TableRows.{TableRows}
-use Rattle.row_tables.specs.References.{AreOrdered, AreClosed, HasMessage, HasPart, fields_at, addresses_at, ids_at}
+use Rattle.row_tables.specs.References.{AreOrdered, AreClosed, HasMessage, fields_at, addresses_at, ids_at}
 use Rattle.row_tables.specs.Fits.{Fits, applied}
 use Rattle.row_tables.specs.declared.mails.HeaderField.{HeaderField}
 use Rattle.row_tables.specs.declared.values.AddressField.{AddressField}
 use Rattle.row_tables.specs.declared.values.DateField.{DateField}
 use Rattle.row_tables.specs.declared.contents.BodyPart.{BodyPart}
-use Rattle.row_tables.specs.declared.contents.FieldName.{FieldName}
 use Rattle.row_tables.specs.declared.contents.AddressRow.{AddressRow}
 use Rattle.row_tables.specs.declared.change.RowChange.{RowChange}
 use Rattle.row_tables.specs.declared.change.RowChange.TheVariants.{InsertMessageRow, InsertBodyPart, InsertPartNumber, InsertFieldName, InsertHeaderField, InsertAddressRow, InsertAddressField, InsertDateField, InsertMessageId, InsertUnparsedMessage}
 use Rattle.row_store.specs.Kept.{Store}
+use Rattle.row_store.specs.Holding.{stored_by, in_row}
 use Rattle.shredder.specs.Paths.{child_path, is_among}
-use Rattle.shredder.specs.MessageRows.{AddressTexts, HasName, HasAddress, HasBytes, IsAddressId, HasLeaf, HasInner, HasNode, HasChildren, IsFieldRow, AreFieldRows, form_of, text_of, items_of, date_of, ids_of, kind_of, texts_of, date_row, id_rows, part_at, unparsed_row}
+use Rattle.shredder.specs.MessageRows.{IsAddressId, HasLeaf, HasInner, HasNode, HasChildren, IsFieldRow, form_of, text_of, items_of, date_of, ids_of, kind_of, texts_of, date_row, id_rows, part_at, unparsed_row}
 
 -- ---- rows of a field
 
@@ -60,9 +60,13 @@ AreAddressIds addresses (i ∷ items) (id ∷ ids) = IsAddressId addresses (text
 
 -- ---- rows that messages share
 
--- no body has the bytes and their digest
+-- the row with the id has the bytes and their digest
+abbrev pub RowHasBytes : List BodyPart → ℕ → List ℕ → Type 0
+RowHasBytes rows id bytes = (option_map in_row (row_at body_part_key (number_key id) rows) ≡ Some bytes) × (option_map (λ r. r.digest) (row_at body_part_key (number_key id) rows) ≡ Some (sha256 bytes))
+
+-- no row has the bytes and their digest
 abbrev pub LacksBytes : List BodyPart → List ℕ → Type 0
-LacksBytes rows bytes = (id : ℕ) → HasBytes rows id bytes → ⊥
+LacksBytes rows bytes = (id : ℕ) → RowHasBytes rows id bytes → ⊥
 
 -- The rows of two tables whose ids differ are together those of a third.
 pub record IsUnion {X : Type 0} (key : X → RowKey) (rows added all : List X) : Type 0 where
@@ -169,8 +173,8 @@ pub record IsAdded (message : ℕ) (path : List ℕ) (place : ℕ) (field : Fiel
 
 -- the part at the path, without those within
 abbrev pub HasPartOf : TableRows → ℕ → List ℕ → Content → Type 0
-HasPartOf t message path (leaf Plain bytes) = HasLeaf t message path 0 bytes
-HasPartOf t message path (leaf Base64 bytes) = HasLeaf t message path 1 bytes
+HasPartOf t message path (leaf Plain bytes) = HasLeaf (stored_by in_row t) message path 0 bytes
+HasPartOf t message path (leaf Base64 bytes) = HasLeaf (stored_by in_row t) message path 1 bytes
 HasPartOf t message path (multi trees) = HasInner t message path 2
 HasPartOf t message path (nested tree) = HasInner t message path 3
 
@@ -181,13 +185,13 @@ HasBarePart message path content t = HasPartOf t message path content × (fields
 -- the parts from a number on are those of the trees
 abbrev pub HasEach : TableRows → ℕ → List ℕ → ℕ → List Tree → Type 0
 HasEach t message path n [] = Unit {0}
-HasEach t message path n (tree ∷ trees) = HasNode t message (child_path path n) tree × HasEach t message path (n + 1) trees
+HasEach t message path n (tree ∷ trees) = HasNode (stored_by in_row t) message (child_path path n) tree × HasEach t message path (n + 1) trees
 
 -- what stands within the part at the path
 abbrev pub HasInside : ℕ → List ℕ → Content → TableRows → Type 0
 HasInside message path (leaf encoding bytes) t = Unit {0}
-HasInside message path (multi trees) t = HasChildren t message path 1 trees
-HasInside message path (nested tree) t = HasNode t message (child_path path 0) tree
+HasInside message path (multi trees) t = HasChildren (stored_by in_row t) message path 1 trees
+HasInside message path (nested tree) t = HasNode (stored_by in_row t) message (child_path path 0) tree
 
 -- nothing, or a text that begins with a dot
 abbrev pub IsEnd : List ℕ → Type 0

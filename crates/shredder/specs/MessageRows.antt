@@ -1,4 +1,4 @@
--- The rows of a message, up to the ids of the rows that messages share.
+-- The rows of a message, up to the ids of the rows that messages share. The content of a body is what the store has by its id.
 use Rattle.std.specs.Prelude.{◌≡◌, ℕ, ◌+◌, ◌≤◌, false, List, [], ◌∷◌, length, Option, Some, None}
 use Rattle.std.specs.Option.{option_map}
 use Rattle.sha2.specs.Sha256.{sha256}
@@ -28,9 +28,9 @@ use Rattle.row_tables.specs.declared.mails.UnparsedMessage.{UnparsedMessage}
 use Rattle.row_tables.specs.declared.values.AddressField.{AddressField}
 use Rattle.row_tables.specs.declared.values.DateField.{DateField}
 use Rattle.row_tables.specs.declared.values.MessageId.{MessageId}
-use Rattle.row_tables.specs.declared.contents.BodyPart.{BodyPart}
 use Rattle.row_tables.specs.declared.contents.FieldName.{FieldName}
 use Rattle.row_tables.specs.declared.contents.AddressRow.{AddressRow}
+use Rattle.row_store.specs.Holding.{Stored}
 use Rattle.shredder.specs.Paths.{child_path, paths, is_among}
 
 -- ---- rows that messages share
@@ -53,12 +53,12 @@ abbrev pub HasAddress : List AddressRow → ℕ → AddressTexts → Type 0
 HasAddress addresses id texts = option_map texts_in (row_at address_key (number_key id) addresses) ≡ Some texts
 
 -- the body with the id has the bytes
-abbrev pub HasContent : List BodyPart → ℕ → List ℕ → Type 0
-HasContent bodies id bytes = option_map (λ r. r.content) (row_at body_part_key (number_key id) bodies) ≡ Some bytes
+abbrev pub HasContent : Stored → ℕ → List ℕ → Type 0
+HasContent s id bytes = s.contents id ≡ Some bytes
 
 -- the body with the id has the bytes and their digest
-abbrev pub HasBytes : List BodyPart → ℕ → List ℕ → Type 0
-HasBytes bodies id bytes = HasContent bodies id bytes × (option_map (λ r. r.digest) (row_at body_part_key (number_key id) bodies) ≡ Some (sha256 bytes))
+abbrev pub HasBytes : Stored → ℕ → List ℕ → Type 0
+HasBytes s id bytes = HasContent s id bytes × (option_map (λ r. r.digest) (row_at body_part_key (number_key id) s.tables.shared.bodyparts) ≡ Some (sha256 bytes))
 
 -- ---- values
 
@@ -171,10 +171,10 @@ abbrev pub part_at : TableRows → ℕ → List ℕ → Option PartNumber
 part_at t message path = row_at part_number_key (part_key message path) t.mails.part_numbers
 
 -- The part at the path is a leaf of a kind with these bytes.
-pub record HasLeaf (t : TableRows) (message : ℕ) (path : List ℕ) (kind : ℕ) (bytes : List ℕ) : Type 0 where
+pub record HasLeaf (s : Stored) (message : ℕ) (path : List ℕ) (kind : ℕ) (bytes : List ℕ) : Type 0 where
   pub body : ℕ
-  pub part : part_at t message path ≡ Some (record { message = message; path = path; kind = kind; body = body })
-  pub bytes_are : HasBytes t.shared.bodyparts body bytes
+  pub part : part_at s.tables message path ≡ Some (record { message = message; path = path; kind = kind; body = body })
+  pub bytes_are : HasBytes s body bytes
 
 -- The part at the path has parts of its own, and no body.
 abbrev pub HasInner : TableRows → ℕ → List ℕ → ℕ → Type 0
@@ -182,19 +182,19 @@ HasInner t message path kind = part_at t message path ≡ Some (record { message
 
 abbrev mutual
   -- The rows at the path, and at those below it, are those of the tree.
-  pub HasNode : TableRows → ℕ → List ℕ → Tree → Type 0
-  HasNode t message path (node fields content) = HasFields t message path fields × HasBody t message path content
+  pub HasNode : Stored → ℕ → List ℕ → Tree → Type 0
+  HasNode s message path (node fields content) = HasFields s.tables message path fields × HasBody s message path content
 
-  pub HasBody : TableRows → ℕ → List ℕ → Content → Type 0
-  HasBody t message path (leaf Plain bytes) = HasLeaf t message path 0 bytes
-  HasBody t message path (leaf Base64 bytes) = HasLeaf t message path 1 bytes
-  HasBody t message path (multi trees) = HasInner t message path 2 × HasChildren t message path 1 trees
-  HasBody t message path (nested tree) = HasInner t message path 3 × HasNode t message (child_path path 0) tree
+  pub HasBody : Stored → ℕ → List ℕ → Content → Type 0
+  HasBody s message path (leaf Plain bytes) = HasLeaf s message path 0 bytes
+  HasBody s message path (leaf Base64 bytes) = HasLeaf s message path 1 bytes
+  HasBody s message path (multi trees) = HasInner s.tables message path 2 × HasChildren s message path 1 trees
+  HasBody s message path (nested tree) = HasInner s.tables message path 3 × HasNode s message (child_path path 0) tree
 
   -- The parts in the part at the path, from a number on, are those of the trees, and no more.
-  pub HasChildren : TableRows → ℕ → List ℕ → ℕ → Trees → Type 0
-  HasChildren t message path n none = part_at t message (child_path path n) ≡ None
-  HasChildren t message path n (more tree trees) = HasNode t message (child_path path n) tree × HasChildren t message path (n + 1) trees
+  pub HasChildren : Stored → ℕ → List ℕ → ℕ → Trees → Type 0
+  HasChildren s message path n none = part_at s.tables message (child_path path n) ≡ None
+  HasChildren s message path n (more tree trees) = HasNode s message (child_path path n) tree × HasChildren s message path (n + 1) trees
 
 -- No row of the message has the path.
 pub record HasNothing (t : TableRows) (message : ℕ) (path : List ℕ) : Type 0 where
@@ -219,8 +219,8 @@ abbrev pub unparsed_row : ℕ → Reason → UnparsedMessage
 unparsed_row message reason = record { message = message; reason = reason_number reason }
 
 -- The rows of the message are exactly those of the mail.
-pub record HasRows (t : TableRows) (message : ℕ) (mail : Mail) : Type 0 where
-  pub size : row_at message_key (number_key message) t.mails.messages ≡ Some (record { id = message; size = length (print mail.message) })
-  pub reason : row_at unparsed_message_key (number_key message) t.mails.unparsed_messages ≡ option_map (unparsed_row message) mail.reason
-  pub tree_rows : HasNode t message [] mail.message
-  pub others : (path : List ℕ) → is_among (paths [] mail.message) path ≡ false → HasNothing t message path
+pub record HasRows (s : Stored) (message : ℕ) (mail : Mail) : Type 0 where
+  pub size : row_at message_key (number_key message) s.tables.mails.messages ≡ Some (record { id = message; size = length (print mail.message) })
+  pub reason : row_at unparsed_message_key (number_key message) s.tables.mails.unparsed_messages ≡ option_map (unparsed_row message) mail.reason
+  pub tree_rows : HasNode s message [] mail.message
+  pub others : (path : List ℕ) → is_among (paths [] mail.message) path ≡ false → HasNothing s.tables message path

@@ -8,6 +8,8 @@ use Rattle.row_tables.specs.TableRows.{TableRows}
 use Rattle.row_tables.specs.References.{fields_at, addresses_at, ids_at}
 use Rattle.row_tables.specs.Fits.{Runs}
 use Rattle.row_tables.specs.declared.change.RowChange.{RowChange}
+use Rattle.row_tables.specs.declared.contents.BodyPart.{BodyPart}
+use Rattle.row_store.specs.Holding.{stored_by}
 use Rattle.shredder.specs.MessageRows.{HasRows, part_at}
 use Rattle.shredder.specs.Distinct.{AreDistinct, Keeps}
 
@@ -27,11 +29,12 @@ pub record SameMessage (message : ℕ) (t after : TableRows) : Type 0 where
 
 -- The changes fit in turn, and add the mail as this message and nothing else: other messages keep their rows, what messages share
 -- keeps its ids, and the tables that no message has rows in are left alone. Shared rows stay distinct where they were.
-pub record Shreds (t : TableRows) (message : ℕ) (mail : Mail) (changes : List RowChange) : Type 0 where
+-- `content` gives the content of a row of a body.
+pub record Shreds (content : BodyPart → List ℕ) (t : TableRows) (message : ℕ) (mail : Mail) (changes : List RowChange) : Type 0 where
   pub after : TableRows
   pub runs : Runs t changes after
-  pub rows : HasRows after message mail
+  pub rows : HasRows (stored_by content after) message mail
   pub others : (other : ℕ) → other ≢ message → SameMessage other t after
-  pub shared : Keeps t.shared after.shared
-  pub distinct : AreDistinct t.shared → AreDistinct after.shared
+  pub shared : Keeps (stored_by content t) (stored_by content after)
+  pub distinct : AreDistinct (stored_by content t) → AreDistinct (stored_by content after)
   pub apart : after ≡ record t { mails = after.mails; shared = after.shared }

@@ -4,8 +4,7 @@ ghost use Rattle.row_tables.specs.Fits.{IsText};
 ghost use Rattle.row_tables.specs.TableRows.{TableRows};
 ghost use Rattle.row_store.specs.ThreeFiles.{FaultRose};
 ghost use Rattle.row_store.specs.declared.faults.StoreFault.{StoreFault};
-ghost use Rattle.shredder.specs.MessageRows.{HasBytes};
-ghost use Rattle.shredder.specs.Making.{Between, IsReady, IsSameStore, Leads, Nowhere, holding};
+ghost use Rattle.shredder.specs.Making.{Between, IsReady, IsSameStore, Leads, Nowhere, RowHasBytes, holding};
 
 use crate::laws::row_laws;
 use disk_model::Disk;
@@ -26,7 +25,7 @@ pub(crate) fn add_body<D: Disk>(
     ensures failed { IsErrOf result StoreFault.Failed → FaultRose D.told store.old.files store.new.files }
     ensures rows { (message : ℕ) (t now added : TableRows) → t ≡ store.old.tables → Between message t (holding added store.old.placed) now
         → IfOk result (λ id. Leads message t now (holding added store.old.placed) changes.old.items Nowhere
-        (λ after. HasBytes after.shared.bodyparts id bytes.now) (holding added store.new.placed) changes.new.items) }
+        (λ after. RowHasBytes after.shared.bodyparts id bytes.now) (holding added store.new.placed) changes.new.items) }
 {
     row_laws();
     let BodyRef { id, change } = store.place_body(bytes)?;

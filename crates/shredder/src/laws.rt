@@ -5,7 +5,9 @@ ghost use Rattle.mime_reader.specs.Weights.{weight};
 ghost use Rattle.mime_reader.specs.Wrapping.{mail};
 ghost use Rattle.mime_tree.specs.Trees.{Tree};
 ghost use Rattle.row_tables.specs.TableRows.{TableRows};
+ghost use Rattle.row_tables.specs.declared.contents.BodyPart.{BodyPart};
 ghost use Rattle.row_tables.specs.declared.change.RowChange.{RowChange};
+ghost use Rattle.row_store.specs.Holding.{stored_by};
 ghost use Rattle.shredder.specs.Fitting.{TreeFits};
 ghost use Rattle.shredder.specs.MessageRows.{HasRows};
 ghost use Rattle.shredder.specs.Making.{RowLaws};
@@ -21,8 +23,9 @@ use row_tables::{
 
 /// What was a message before the changes of another is the same message after them.
 pub fn law_other_messages_stay()
-    ensures { (t : TableRows) (message : ℕ) (mail : Mail) (changes : List RowChange) (shreds : Shreds t message mail changes) (other : ℕ)
-        (its : Mail) → other ≢ message → HasRows t other its → HasRows shreds.after other its }
+    ensures { (content : BodyPart → List ℕ) (t : TableRows) (message : ℕ) (mail : Mail) (changes : List RowChange)
+        (shreds : Shreds content t message mail changes) (other : ℕ) (its : Mail) → other ≢ message → HasRows (stored_by content t) other its
+        → HasRows (stored_by content shreds.after) other its }
 {}
 
 /// A message has rows where all its bytes, fields, items, ids and parts together are fewer than 2^30; so what is kept of at most

@@ -5,6 +5,7 @@ ghost use Rattle.row_tables.specs.Fits.{IsText};
 ghost use Rattle.row_tables.specs.References.{fields_at};
 ghost use Rattle.row_tables.specs.TableRows.{TableRows};
 ghost use Rattle.row_tables.specs.declared.change.RowChange.TheVariants.{InsertPartNumber};
+ghost use Rattle.row_store.specs.Holding.{in_row, stored_by};
 ghost use Rattle.row_store.specs.ThreeFiles.{FaultRose};
 ghost use Rattle.row_store.specs.declared.faults.StoreFault.{StoreFault};
 ghost use Rattle.shredder.specs.Fitting.{ContentFits};
@@ -78,7 +79,7 @@ fn add_leaf<D: Disk>(
     ensures rows { (t now added : TableRows) → t ≡ store.old.tables → Between message t (holding added store.old.placed) now
         → part_at now message path.now ≡ None
         → OnOk result (Leads message t now (holding added store.old.placed) changes.old.items (Here path.now)
-        (λ after. HasLeaf after message path.now kind bytes.now × (fields_at message path.now after.mails.header_fields ≡ []))
+        (λ after. HasLeaf (stored_by in_row after) message path.now kind bytes.now × (fields_at message path.now after.mails.header_fields ≡ []))
         (holding added store.new.placed) changes.new.items) }
 {
     row_laws();

@@ -5,9 +5,7 @@ ghost use Rattle.ordered_rows.specs.Listed.{IsNewNumber};
 ghost use Rattle.row_tables.specs.Keys.{message_key};
 ghost use Rattle.row_tables.specs.Fits.{CanRun};
 ghost use Rattle.row_tables.specs.declared.change.RowChange.TheVariants.{InsertMessageRow};
-ghost use Rattle.row_store.specs.ThreeFiles.{FaultRose, KeepsDisks};
-ghost use Rattle.row_store.specs.Holding.{stored};
-ghost use Rattle.row_store.specs.Crashes.{Stays};
+ghost use Rattle.row_store.specs.Kept.{IfContents, KeepsState};
 ghost use Rattle.row_store.specs.Bodies.{ArePlaced};
 ghost use Rattle.row_store.specs.declared.faults.StoreFault.{StoreFault};
 ghost use Rattle.shredder.specs.Fitting.{TreeFits};
@@ -43,15 +41,11 @@ pub fn rows_of<D: Disk>(
     requires usable { store.old.spent ≡ false }
     requires fresh { store.old.placed ≡ [] }
     ensures id { IfOk result (λ made. IsNewNumber message_key store.old.tables.mails.messages made.0) }
-    ensures rows { IfOk result (λ made. Shreds store.old.tables made.0 mail.now made.1.items) }
+    ensures rows { IfContents D.told store.new (λ content. IfOk result (λ made. Shreds content store.old.tables made.0 mail.now made.1.items)) }
     ensures fit { IfOk result (λ made. CanRun store.old.tables made.1.items) }
     ensures placed { IfOk result (λ made. ArePlaced store.new.placed made.1.items) }
-    ensures tables { store.new.tables ≡ store.old.tables }
-    ensures crash { Stays D.told (IsOk result) store.old.files store.new.files (stored store.old.tables) }
+    ensures keeps { KeepsState D.told (IsOk result) (IsErrOf result StoreFault.Failed) store.old store.new }
     ensures untouched { store.new.files ≡ store.old.files }
-    ensures goes_on { OnOk result (store.new.spent ≡ false) }
-    ensures failed { IsErrOf result StoreFault.Failed → FaultRose D.told store.old.files store.new.files }
-    ensures disks { KeepsDisks D.told store.old.files store.new.files }
 {
     row_laws();
     new_number::<MessageRow>();

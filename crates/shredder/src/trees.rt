@@ -2,6 +2,7 @@
 ghost use Rattle.std.specs.Prelude.{◌≡◌, ◌+◌, ◌^◌, ◌<◌, ℕ, length, OnOk, IsErrOf};
 ghost use Rattle.mime_tree.specs.Contents.{content_of, trees_of};
 ghost use Rattle.row_tables.specs.TableRows.{TableRows};
+ghost use Rattle.row_store.specs.Holding.{in_row, stored_by};
 ghost use Rattle.row_store.specs.ThreeFiles.{FaultRose};
 ghost use Rattle.row_store.specs.declared.faults.StoreFault.{StoreFault};
 ghost use Rattle.shredder.specs.Fitting.{ChildrenFit, ContentFits, NodeFits};
@@ -38,7 +39,7 @@ pub(crate) fn add_node<D: Disk>(
     ensures failed { IsErrOf result StoreFault.Failed → FaultRose D.told store.old.files store.new.files }
     ensures rows { (t now : TableRows) → t ≡ store.old.tables → Between message t (holding shared.old.added store.old.placed) now → IsOpen now message path.now
         → OnOk result (Leads message t now (holding shared.old.added store.old.placed) changes.old.items (Among (paths path.now node.now))
-        (λ after. HasNode after message path.now node.now) (holding shared.new.added store.new.placed) changes.new.items) }
+        (λ after. HasNode (stored_by in_row after) message path.now node.now) (holding shared.new.added store.new.placed) changes.new.items) }
 {
     row_laws();
     add_part(alloc, changes, message, path, &node.body, store)?;
@@ -105,7 +106,7 @@ fn add_children<D: Disk>(
     ensures failed { IsErrOf result StoreFault.Failed → FaultRose D.told store.old.files store.new.files }
     ensures rows { (t now : TableRows) → t ≡ store.old.tables → Between message t (holding shared.old.added store.old.placed) now → IsOpenFrom now message path.now 0
         → OnOk result (Leads message t now (holding shared.old.added store.old.placed) changes.old.items (Among (child_paths path.now 1 (trees_of parts.now)))
-        (λ after. HasChildren after message path.now 1 (trees_of parts.now)) (holding shared.new.added store.new.placed) changes.new.items) }
+        (λ after. HasChildren (stored_by in_row after) message path.now 1 (trees_of parts.now)) (holding shared.new.added store.new.placed) changes.new.items) }
 {
     row_laws();
     for number in 0..parts.len() {

@@ -1,5 +1,6 @@
 use Rattle.std.proofs.Common.{◌≡◌, [], IfOk, Some, None, sym, ap, ◌∙◌}
 use Rattle.std.specs.Option.{option_copied}
+use Rattle.row_store.specs.Holding.{stored_by, in_row}
 use Rattle.shredder.specs.MessageRows.{part_at}
 use Rattle.rebuilder.proofs.OneMail.{nowhere}
 use Rattle.rebuilder.proofs.Children.{at_row}
@@ -13,4 +14,4 @@ returns-in-Some c mail h =
 pub returns-in-None : goal.returns-in-None
 returns-in-None c mail h =
     let none : part_at c.args.tables.now c.args.id [] ≡ None = sym c.part_numbers_row.ensures ∙ ap option_copied c.in-None.is in
-    absurd (nowhere c.args.tables.now c.args.id [] mail.message h.rows.tree_rows none)
+    absurd (nowhere (stored_by in_row c.args.tables.now) c.args.id [] mail.message h.rows.tree_rows none)

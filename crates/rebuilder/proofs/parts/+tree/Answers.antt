@@ -5,6 +5,7 @@ use Rattle.mime_tree.specs.Contents.{content_of, trees_of}
 use Rattle.mime_tree.specs.Sizes.{levels_in}
 use Rattle.mime_tree.specs.Trees.Tree.{node}
 use Rattle.mime_tree.specs.Trees.Content.{multi, nested}
+use Rattle.row_store.specs.Holding.{stored_by, in_row}
 use Rattle.shredder.specs.Paths.{child_path}
 use Rattle.shredder.specs.MessageRows.{part_at}
 use Rattle.rebuilder.proofs.Bodies.{plain, base64, multipart, within}
@@ -67,7 +68,7 @@ inner_in-returns-in-Some t c tree h few =
 pub inner_in-returns-in-None : goal.inner_in-returns-in-None
 inner_in-returns-in-None t c tree h few =
     let none : part_at c.args.tables.now c.args.part.now.message (child_path c.args.part.now.path 0) ≡ None = sym c.in_ok-inner.ensures ∙ ap option_copied c.in-None.is in
-    absurd (nowhere c.args.tables.now c.args.part.now.message (child_path c.args.part.now.path 0) tree h none)
+    absurd (nowhere (stored_by in_row c.args.tables.now) c.args.part.now.message (child_path c.args.part.now.path 0) tree h none)
 
 pub node_in-returns-then-most-eq0 : goal.node_in-returns-then-most-eq0
 node_in-returns-then-most-eq0 t c (node fields content) there h few = absurd (omega (arith, few, c.if-most-eq0.true))

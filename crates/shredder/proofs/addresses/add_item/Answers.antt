@@ -1,5 +1,4 @@
 use Rattle.std.proofs.Common.{◌≡◌, ℕ, List, [], Option, Some, IfOk, ap, ◌∙◌, sym, subst, rules}
-use Rattle.mime_tree.specs.declared.values.Item.{Item}
 use Rattle.shredder.specs.MessageRows.{AddressTexts, IsAddressId, texts_of}
 use Rattle.shredder.specs.Making.{Leads, Nowhere, holding}
 use Rattle.shredder.proofs.addresses.add_item.Goals as goal

@@ -1,5 +1,4 @@
-use Rattle.std.proofs.Common.{◌≡◌, ℕ, ◌++◌, ◌∷◌, List, ap, ◌∙◌, sym, subst}
-use Rattle.row_tables.specs.TableRows.{TableRows}
+use Rattle.std.proofs.Common.{◌≡◌, ℕ, ◌++◌, ◌∷◌, List, ap, ◌∙◌, subst}
 use Rattle.row_tables.specs.declared.change.RowChange.TheVariants.{InsertHeaderField}
 use Rattle.shredder.specs.MessageRows.{HasName}
 use Rattle.shredder.specs.Making.{Leads, Nowhere, field_row, value_changes, holding}

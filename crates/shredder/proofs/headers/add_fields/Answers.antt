@@ -1,11 +1,9 @@
-use Rattle.std.proofs.Common.{◌≡◌, ℕ, ◌+◌, ◌++◌, ◌∷◌, [], List, length, take, ap, ◌∙◌, sym, subst, arith, rules}
+use Rattle.std.proofs.Common.{◌≡◌, ℕ, ◌+◌, ◌++◌, ◌∷◌, [], List, length, take, ap, ◌∙◌, sym, subst, rules}
 use Rattle.std.proofs.lemmas.List.{take_more, take_all}
 use Rattle.mime_tree.specs.declared.values.Field.{Field}
-use Rattle.row_tables.specs.References.{fields_at}
 use Rattle.row_tables.specs.TableRows.{TableRows}
-use Rattle.shredder.specs.MessageRows.{AreFieldRows}
-use Rattle.shredder.specs.Making.{Leads, Here, IsAdded, holding}
-use Rattle.shredder.proofs.Steps.{leads_none, leads_then}
+use Rattle.shredder.specs.Making.{Leads, Here, holding}
+use Rattle.shredder.proofs.Steps.{leads_then}
 use Rattle.shredder.proofs.FieldSteps.{HasSome, fields_step, fields_done, some_before}
 use Rattle.shredder.proofs.headers.add_fields.Goals as goal
 

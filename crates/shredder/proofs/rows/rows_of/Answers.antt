@@ -1,4 +1,4 @@
-use Rattle.std.proofs.Common.{◌≡◌, ◌∙◌, ℕ, List, refl, ap, subst}
+use Rattle.std.proofs.Common.{◌≡◌, ◌∙◌, ℕ, List, refl, ap, subst, rules}
 use Rattle.row_tables.specs.TableRows.{TableRows, no_rows}
 use Rattle.row_tables.specs.declared.contents.BodyPart.{BodyPart}
 use Rattle.row_tables.specs.References.{AreOrdered, AreClosed}
@@ -9,13 +9,17 @@ use Rattle.shredder.proofs.LeftAlone.{left_alone}
 use Rattle.shredder.proofs.Shredded.{begun, between, open_all, placed_all, shreds}
 use Rattle.shredder.proofs.rows.rows_of.Goals as goal
 
-pub returns-in_err-add_node-clause-crash : goal.returns-in_err-add_node-clause-crash
-returns-in_err-add_node-clause-crash g c =
-    left_alone g.D.Disk.told _ c.args.store.now.files c.add_node.new.store.files _ c.add_node.ensures.same.files (c.is_settled.ensures.stays c.requires.usable)
+pub returns-in_err-id-clause-keeps : goal.returns-in_err-id-clause-keeps
+returns-in_err-id-clause-keeps g c =
+    left_alone g.D.Disk.told _ _ c.args.store.now c.args.store.now (record { files = refl; tables = refl }) (c.is_settled.ensures.stays c.requires.usable) (search rules) (search rules)
 
-pub returns-clause-crash : goal.returns-clause-crash
-returns-clause-crash g c =
-    left_alone g.D.Disk.told _ c.args.store.now.files c.add_node.new.store.files _ c.add_node.ensures.same.files (c.is_settled.ensures.stays c.requires.usable)
+pub returns-in_err-add_node-clause-keeps : goal.returns-in_err-add_node-clause-keeps
+returns-in_err-add_node-clause-keeps g c =
+    left_alone g.D.Disk.told _ _ c.args.store.now c.add_node.new.store c.add_node.ensures.same (c.is_settled.ensures.stays c.requires.usable) (search rules) (search rules)
+
+pub returns-clause-keeps : goal.returns-clause-keeps
+returns-clause-keeps g c =
+    left_alone g.D.Disk.told _ _ c.args.store.now c.add_node.new.store c.add_node.ensures.same (c.is_settled.ensures.stays c.requires.usable) (search rules) (search rules)
 
 pub returns-clause-rows : goal.returns-clause-rows
 returns-clause-rows g c =

@@ -7,7 +7,8 @@ use Rattle.mime_tree.specs.Trees.Content.{multi, nested}
 use Rattle.mime_tree.specs.declared.values.Field.{Field}
 use Rattle.row_tables.specs.References.{HasPart, fields_at}
 use Rattle.row_tables.specs.TableRows.{TableRows}
-use Rattle.shredder.specs.Fitting.{ContentFits, NodeFits}
+use Rattle.shredder.specs.Fitting.{NodeFits}
+use Rattle.row_store.specs.Holding.{stored_by, in_row}
 use Rattle.shredder.specs.MessageRows.{HasFields, HasNode}
 use Rattle.shredder.specs.Paths.{child_path, child_paths, inner_paths, paths}
 use Rattle.shredder.specs.Making.{Among, Between, Here, HasBarePart, HasInside, IsOpen, Leads, holding}
@@ -62,7 +63,7 @@ add_children-loop-number-preserved g k c = (
       let small : 1 + k < 2 ^ 64 = omega (arith, c.loop-number-test.true, c.requires.count) in
       let at : c.deref.result.now ≡ child_path path (1 + k) = c.deref.ensures.value ∙ c.in_ok-child.ensures in
       let free : IsOpen i.after message (child_path path (1 + k)) = i.holds.1 (1 + k) (omega (arith, counted)) small in
-      let step = subst (λ (p : List ℕ). Leads message t i.after added1 changes1 (Among (paths p tree)) (λ after. HasNode after message p tree) added2 changes2) at
+      let step = subst (λ (p : List ℕ). Leads message t i.after added1 changes1 (Among (paths p tree)) (λ after. HasNode (stored_by in_row after) message p tree) added2 changes2) at
       (c.in_ok-add_node.ensures.rows t i.after (e ∙ sym c.loop-number.invariant.0.tables) i.between (subst (λ (p : List ℕ). IsOpen i.after message p) (sym at) free)) in
       let taken : take k all ++ tree ∷ [] ≡ take (k + 1) all = sym (take_more all k tree c.loop-number-test.true ∙ ap (λ (x : Tree). take k all ++ x ∷ []) (sym c.index-parts-number.is)) in
       let grown = subst (λ (l : List Tree). Leads message t i.after added1 changes1 W (λ after. HasFirst after message path l) added2 changes2) taken
@@ -104,7 +105,7 @@ add_inside-returns-in_ok-add_node-in-Nested-clause-rows g k c t now e b open_now
     let is : content_of c.args.body.now ≡ nested inner = ap content_of c.in-Nested.is ∙ ap (λ (x : Tree). nested x) (sym c.deref-in-Nested-2.ensures) in
     let at : c.deref-in-Nested.result.now ≡ child_path path 0 = c.deref-in-Nested.ensures.value ∙ c.in_ok-path-in-Nested.ensures in
     let free : IsOpen now message (child_path path 0) = open_now 0 (omega arith) (omega arith) in
-    let step = subst (λ (p : List ℕ). Leads message t now added0 changes0 (Among (paths p inner)) (λ after. HasNode after message p inner) added1 changes1) at
+    let step = subst (λ (p : List ℕ). Leads message t now added0 changes0 (Among (paths p inner)) (λ after. HasNode (stored_by in_row after) message p inner) added1 changes1) at
     (c.in_ok-add_node-in-Nested.ensures.rows t now e b (subst (λ (p : List ℕ). IsOpen now message p) (sym at) free)) in
     subst (λ (content : Content). Leads message t now added0 changes0 (Among (inner_paths path content)) (HasInside message path content) added1 changes1) (sym is) step
 
@@ -136,5 +137,5 @@ add_node-returns-clause-rows g k c t now e b open_now =
     (c.in_ok-add_fields.ensures part.after mid.placed) part.between (part_there part.after message path content part.holds.0) part.holds.1 in
     let free = open_within laws message t path now added0 added1 added2 changes0 changes1 changes2 P F b open_now part its in
     let inside = c.in_ok-add_inside.ensures.rows t its.after (e ∙ sym same) its.between free in
-    subst (λ (tree : Tree). Leads message t now added0 changes0 (Among (paths path tree)) (λ after. HasNode after message path tree) added3 changes3) is
+    subst (λ (tree : Tree). Leads message t now added0 changes0 (Among (paths path tree)) (λ after. HasNode (stored_by in_row after) message path tree) added3 changes3) is
     (node_step laws message t path fields content now added0 added1 added2 added3 changes0 changes1 changes2 changes3 fits.3 part its inside)
