@@ -1,20 +1,19 @@
 -- The order and the references of the tables after a change.
-use Rattle.std.proofs.Common.{◌≡◌, ℕ, Bool, true, false, not, ◌&&◌, ◌==◌, List, [], None, IsSome, refl, sym, ap, ◌∙◌, subst}
+use Rattle.std.proofs.Common.{◌≡◌, ℕ, Bool, true, false, not, ◌&&◌, ◌==◌, [], None, IsSome, refl, sym, ap, ◌∙◌, subst}
 use mathlib.Core.Bool.{true≢false}
 use borrow.Author.Tests.{eqb-true, eq-eqb}
 use Rattle.std.specs.Cmp.{second_so}
 use Rattle.std.specs.List.{AllByRecursion, filter}
 use Rattle.std.proofs.lemmas.List.Kept.{IsStrictlySortedBy-filter}
-use Rattle.ordered_rows.specs.RowKey.{RowKey, number_key, same_key}
+use Rattle.ordered_rows.specs.RowKey.{number_key}
 use Rattle.ordered_rows.specs.Listed.{row_cmp, has_key, has_number, row_at}
-use Rattle.row_tables.specs.Keys.{owned_key, uid_key, uid_flag_key, part_key, field_key, item_key, user_key, mailbox_key, message_key, mailbox_message_key, deleted_message_key, flag_name_key, flag_key, body_part_key, part_number_key, field_name_key, header_field_key, address_key, address_field_key, date_field_key, message_id_key, unparsed_message_key, subscription_key}
+use Rattle.row_tables.specs.Keys.{uid_key, user_key, mailbox_key, message_key, mailbox_message_key, deleted_message_key, flag_name_key, flag_key, body_part_key, part_number_key, field_name_key, header_field_key, address_key, address_field_key, date_field_key, message_id_key, unparsed_message_key, subscription_key}
 use Rattle.row_tables.specs.TableRows.{TableRows}
-use Rattle.row_tables.specs.References.{AreOrdered, AreClosed, ReferTo, IsUnknown, HasMailbox, HasMailboxMessage, HasMessage, MailboxRefers, SubscriptionRefers, MailboxMessageRefers, DeletedRefers, FlagRefers, PartRefers, FieldRefers, AddressRefers, DateRefers, IdRefers, UnparsedRefers}
+use Rattle.row_tables.specs.References.{AreOrdered, AreClosed, IsUnknown, HasMailbox, HasMailboxMessage, HasMessage, MailboxRefers, SubscriptionRefers, MailboxMessageRefers, DeletedRefers, FlagRefers, PartRefers, FieldRefers, AddressRefers, DateRefers, IdRefers, UnparsedRefers}
 use Rattle.row_tables.specs.Fits.{Fits, applied}
-use Rattle.row_tables.specs.declared.marks.MailboxMessage.{MailboxMessage}
 use Rattle.row_tables.specs.declared.change.RowChange.{RowChange}
 use Rattle.row_tables.specs.declared.change.RowChange.TheVariants.{InsertUser, InsertMailbox, InsertMessageRow, InsertMailboxMessage, InsertDeletedMessage, InsertFlagName, InsertFlagRow, InsertBodyPart, InsertPartNumber, InsertFieldName, InsertHeaderField, InsertAddressRow, InsertAddressField, InsertDateField, InsertMessageId, InsertUnparsedMessage, InsertSubscription, UpdateMailbox, UpdateMailboxMessage, UpdateCounters, RemoveMailboxMessage, RemoveFlagRow, RemoveSubscription, DropMailbox}
-use Rattle.row_tables.proofs.Lists.{all_filter, all_map, all_with, all_replaced, all_left, all_failing, find_among, none_pass, none_found, not_there}
+use Rattle.row_tables.proofs.Lists.{all_filter, all_with, all_replaced, all_left, all_failing, find_among, none_pass, none_found, not_there}
 use Rattle.row_tables.proofs.References.{TheTables, Grows, Places, more_with, more_replaced, mailbox_refers, subscription_refers, message_refers, deleted_refers, flag_refers, part_refers, field_refers, address_refers, date_refers, id_refers, unparsed_refers, refer_but_marks, still_refer}
 
 pub ordered_after : TheTables → (t : TableRows) (change : RowChange) → AreOrdered t → Fits t change → AreOrdered (applied t change)

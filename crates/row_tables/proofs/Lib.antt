@@ -6,4 +6,5 @@ pub mod Running
 pub mod Standing
 pub mod Ascending
 pub mod NameEntries
+pub mod NameChanges
 pub mod Turns

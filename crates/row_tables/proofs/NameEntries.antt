@@ -1,15 +1,15 @@
 -- Indexes of names after an insertion, and what they find.
-use Rattle.std.proofs.Common.{◌≡◌, ℕ, Bool, true, false, cond, ◌&&◌, ◌||◌, ◌==◌, nat_eq, nat_lt, List, [], ◌∷◌, map, Option, Some, None, refl, sym, ap, ◌∙◌, subst}
+use Rattle.std.proofs.Common.{◌≡◌, ℕ, Bool, true, false, cond, ◌&&◌, ◌||◌, ◌==◌, nat_eq, nat_lt, List, [], ◌∷◌, map, Some, None, refl, sym, ap, ◌∙◌, subst}
 use mathlib.Core.Bool.{true≢false}
 use borrow.Author.Tests.{eqb-true}
 use Rattle.std.specs.Ordering.{is_lt, nat_cmp, ordering_then}
-use Rattle.std.specs.declared.cmp.Ordering.TheVariants.{Less, Equal, Greater}
+use Rattle.std.specs.declared.cmp.Ordering.TheVariants.{Equal}
 use Rattle.std.specs.Cmp.{tied_itself, nat_cmp_total, first_so, second_so}
 use Rattle.std.specs.Cmp.Lexicographic.{pointwise, bytes_decides, nat_list_cmp_total, slice_cmp}
 use Rattle.std.specs.List.{filter, find, list_any}
 use Rattle.ordered_rows.specs.RowKey.{RowKey, key_cmp, same_key, number_key}
 use Rattle.ordered_rows.specs.Listed.{IsInOrder, has_key, is_below, is_in_group, row_at, with_row, placed}
-use Rattle.row_tables.specs.Names.{Names, AreNamed, IsFirst, name_key, name_entry_key}
+use Rattle.row_tables.specs.Names.{Names, AreNamed, name_key, name_entry_key}
 use Rattle.row_tables.specs.declared.indexes.NameEntry.{NameEntry}
 use Rattle.row_tables.proofs.Entries.{Numbers, is_lt_nat, or_right}
 
@@ -19,13 +19,13 @@ name_lt n t a b =
     ∙ ap (λ r. is_lt (ordering_then (ordering_then (ordering_then (ordering_then r Equal) Equal) Equal) (nat_cmp a b))) (tied_itself nat_list_cmp_total t) ∙ is_lt_nat a b
 
 -- what the entries of one name have in common
-abbrev is_here : ℕ → List ℕ → NameEntry → Bool
+abbrev pub is_here : ℕ → List ℕ → NameEntry → Bool
 is_here n t = is_in_group name_entry_key (name_key n t 0)
 
-here_name : (n : ℕ) (t : List ℕ) (e : NameEntry) → is_here n t e ≡ true → e.name ≡ t
+pub here_name : (n : ℕ) (t : List ℕ) (e : NameEntry) → is_here n t e ≡ true → e.name ≡ t
 here_name n t e h = (bytes_decides e.name t).0 (first_so (pointwise nat_eq e.name t) true (first_so (pointwise nat_eq e.name t && true) (e.number == n) h))
 
-here_number : (n : ℕ) (t : List ℕ) (e : NameEntry) → is_here n t e ≡ true → e.number ≡ n
+pub here_number : (n : ℕ) (t : List ℕ) (e : NameEntry) → is_here n t e ≡ true → e.number ≡ n
 here_number n t e h = eqb-true e.number n (second_so (pointwise nat_eq e.name t && true) (e.number == n) h)
 
 -- entries of one name are ordered by their ids

@@ -1,10 +1,10 @@
 -- What rows refer to, after the tables have changed.
-use Rattle.std.proofs.Common.{◌≡◌, ◌<◌, Bool, true, false, List, Some, IsSome, refl, sym, subst}
+use Rattle.std.proofs.Common.{◌≡◌, Bool, true, false, List, Some, IsSome, refl, sym, subst}
 use Rattle.std.specs.List.{AllByRecursion}
 use Rattle.ordered_rows.specs.RowKey.{RowKey, same_key, number_key}
 use Rattle.ordered_rows.specs.InsertLaws.{InsertLaws}
 use Rattle.ordered_rows.specs.Listed.{IsInOrder, row_at, with_row, with_replaced, without}
-use Rattle.row_tables.specs.Keys.{owned_key, uid_key, uid_flag_key, part_key, field_key, item_key, user_key, mailbox_key, message_key, mailbox_message_key, deleted_message_key, flag_name_key, flag_key, body_part_key, part_number_key, field_name_key, header_field_key, address_key, address_field_key, date_field_key, message_id_key, unparsed_message_key, subscription_key}
+use Rattle.row_tables.specs.Keys.{uid_key, part_key, field_key, user_key, mailbox_key, message_key, mailbox_message_key, deleted_message_key, flag_name_key, flag_key, body_part_key, part_number_key, field_name_key, header_field_key, address_key, address_field_key, date_field_key, message_id_key, unparsed_message_key, subscription_key}
 use Rattle.row_tables.specs.TableRows.{TableRows}
 use Rattle.row_tables.specs.References.{ReferTo, MailboxRefers, SubscriptionRefers, MailboxMessageRefers, DeletedRefers, FlagRefers, PartRefers, FieldRefers, AddressRefers, DateRefers, IdRefers, UnparsedRefers}
 use Rattle.row_tables.specs.declared.heads.Mailbox.{Mailbox}

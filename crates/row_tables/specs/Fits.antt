@@ -5,6 +5,7 @@ use Rattle.ordered_rows.specs.RowKey.{RowKey, number_key}
 use Rattle.ordered_rows.specs.Listed.{row_at, with_row, with_replaced, without, without_number}
 use Rattle.row_tables.specs.Keys.{owned_key, uid_key, uid_flag_key, user_key, mailbox_key, subscription_key, mailbox_message_key, deleted_message_key, flag_name_key, flag_key, message_key, body_part_key, part_number_key, field_name_key, header_field_key, address_key, address_field_key, date_field_key, message_id_key, unparsed_message_key}
 use Rattle.row_tables.specs.Indexes.{has_flag_name, has_name, has_address}
+use Rattle.row_tables.specs.Names.{IsRename}
 use Rattle.row_tables.specs.TableRows.{TableRows}
 use Rattle.row_tables.specs.References.{HasMailbox, HasSubscription, HasMailboxMessage, HasFlag, flags_at, MailboxRefers, SubscriptionRefers, MailboxMessageRefers, DeletedRefers, FlagRefers, PartRefers, FieldRefers, AddressRefers, DateRefers, IdRefers, UnparsedRefers}
 use Rattle.row_tables.specs.declared.change.RowChange.{RowChange}
@@ -84,7 +85,7 @@ applied t (RemoveSubscription k) = record t { heads = record t.heads { subscript
 applied t (UpdateCounters r) = record t { heads = record t.heads { counters = r } }
 applied t _ = t
 
--- what takes memory: insertions alone
+-- a change that adds a row
 abbrev pub IsInsertion : RowChange → Type 0
 IsInsertion (InsertUser r) = ⊤
 IsInsertion (InsertMailbox r) = ⊤
@@ -104,6 +105,11 @@ IsInsertion (InsertMessageId r) = ⊤
 IsInsertion (InsertUnparsedMessage r) = ⊤
 IsInsertion (InsertSubscription r) = ⊤
 IsInsertion _ = ⊥
+
+-- what takes memory: insertions, and an update that gives a mailbox another owner or another name
+abbrev pub TakesMemory : TableRows → RowChange → Type 0
+TakesMemory t (UpdateMailbox r) = IsRename r t.heads.mailboxes
+TakesMemory t change = IsInsertion change
 
 -- the changes fit one after another, and make these tables
 abbrev pub Runs : TableRows → List RowChange → TableRows → Type 0

@@ -1,10 +1,11 @@
 -- Rows that are found by a name, which several of them may have, and what the indexes of names know of them.
-use Rattle.std.specs.Prelude.{◌≡◌, ℕ, Bool, true, false, ◌&&◌, ◌==◌, nat_eq, List, [], ◌∷◌, map, Option, Some, None, refl}
+use Rattle.std.specs.Prelude.{◌≡◌, ℕ, Bool, true, false, ◌&&◌, ◌==◌, nat_eq, List, [], ◌∷◌, map, Option, Some, None, MatchOption, refl}
 use Rattle.std.proofs.Common.{ap, ◌∙◌}
 use Rattle.std.specs.List.{filter, find}
 use Rattle.std.specs.Cmp.Lexicographic.{pointwise}
 use Rattle.ordered_rows.specs.RowKey.{RowKey}
-use Rattle.ordered_rows.specs.Listed.{is_in_group}
+use Rattle.ordered_rows.specs.Listed.{is_in_group, row_at}
+use Rattle.row_tables.specs.Keys.{mailbox_key}
 use Rattle.row_tables.specs.declared.heads.User.{User}
 use Rattle.row_tables.specs.declared.heads.Mailbox.{Mailbox}
 use Rattle.row_tables.specs.declared.indexes.NameEntry.{NameEntry}
@@ -22,6 +23,10 @@ user_named name rows = find (has_user_name name) rows
 -- the mailbox of the owner with the name, of several the one with the least id
 abbrev pub mailbox_named : ℕ → List ℕ → List Mailbox → Option Mailbox
 mailbox_named owner name rows = find (has_mailbox_name owner name) rows
+
+-- the mailbox with the row's id has another owner or another name
+abbrev pub IsRename : Mailbox → List Mailbox → Type 0
+IsRename r rows = MatchOption (row_at mailbox_key (mailbox_key r) rows) ⊥ (λ old. has_mailbox_name r.owner r.name old ≡ false)
 
 -- of an entry in an index of names: the number among whose rows the name stands, the name, and the row's id
 abbrev pub name_key : ℕ → List ℕ → ℕ → RowKey

@@ -4,7 +4,7 @@ ghost use Rattle.std.specs.Option.{option_copied};
 ghost use Rattle.ordered_rows.specs.RowKey.{number_key};
 ghost use Rattle.ordered_rows.specs.Listed.{IsInOrder, row_at, rows_from};
 ghost use Rattle.row_tables.specs.Keys.{owned_key, user_key, mailbox_key, subscription_key};
-ghost use Rattle.row_tables.specs.Names.{user_named};
+ghost use Rattle.row_tables.specs.Names.{user_named, mailbox_named};
 ghost use Rattle.row_tables.specs.References.{subscriptions_of};
 
 use crate::heads::{Counters, Mailbox, Subscription, User};
@@ -59,6 +59,14 @@ impl Tables {
     {
         let heads = &self.heads;
         heads.mailboxes.get(Key::of_number(key as u64))
+    }
+
+    /// The mailbox of an owner with a name. Of several, which no server makes, the one with the least id.
+    pub fn mailbox_named(&self, owner: u32, name: &[u8]) -> Option<&Mailbox>
+        ensures { option_copied result ≡ mailbox_named owner name.now self.now.heads.mailboxes }
+    {
+        let heads = &self.heads;
+        row_named(&heads.mailboxes, &heads.mailbox_names, owner, name)
     }
 
     pub fn mailboxes_rows(&self) -> Rows<'_, Mailbox>

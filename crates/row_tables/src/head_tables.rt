@@ -1,19 +1,20 @@
 // The tables of users, of their mailboxes and subscriptions, and the counter of mailbox ids.
-ghost use Rattle.std.specs.Prelude.{◌≡◌, OnOk, OnErr, None};
+ghost use Rattle.std.specs.Prelude.{◌≡◌, OnOk, OnErr, None, IsSome};
 ghost use Rattle.ordered_rows.specs.RowKey.{number_key};
 ghost use Rattle.ordered_rows.specs.Listed.{row_at, with_row, with_replaced, without};
 ghost use Rattle.row_tables.specs.Keys.{owned_key, user_key, mailbox_key, subscription_key};
+ghost use Rattle.row_tables.specs.Names.{IsRename};
 ghost use Rattle.row_tables.specs.TableRows.{no_rows};
 
 use crate::heads::{Counters, Mailbox, Subscription, User};
 use crate::indexes::NameEntry;
 use crate::keys::owned;
-use crate::named::add_named;
-use ordered_rows::{Key, Table};
+use crate::named::{add_named, remove_named, replace_named};
+use ordered_rows::Table;
 use std::alloc::{AllocError, Global};
 use std::marker::Model;
 
-// Contracts see the record of the rows. `user_names` finds users by their names.
+// Contracts see the record of the rows. `user_names` and `mailbox_names` find users and mailboxes by their names.
 #[derive(Drop)]
 pub(crate) struct HeadTables {
     alloc: Global,
@@ -22,17 +23,18 @@ pub(crate) struct HeadTables {
     pub(crate) subscriptions: Table<Subscription>,
     pub(crate) counters: Counters,
     pub(crate) user_names: Table<NameEntry>,
+    pub(crate) mailbox_names: Table<NameEntry>,
 }
 
 impl Model for HeadTables {
     ghost use Rattle.row_tables.specs.TableRows.{HeadRows};
-    ghost use Rattle.row_tables.specs.Names.{AreNamed, user_naming};
+    ghost use Rattle.row_tables.specs.Names.{AreNamed, user_naming, mailbox_naming};
 
     ghost Value = { HeadRows };
 
     ghost view = { λ t. record { users = t.users; mailboxes = t.mailboxes; subscriptions = t.subscriptions; counters = t.counters } };
 
-    ghost invariant = { λ t. AreNamed user_naming t.user_names t.users };
+    ghost invariant = { λ t. AreNamed user_naming t.user_names t.users × AreNamed mailbox_naming t.mailbox_names t.mailboxes };
 }
 
 impl HeadTables {
@@ -46,6 +48,7 @@ impl HeadTables {
             subscriptions: Table::new(alloc),
             counters: Counters { next: 1 },
             user_names: Table::new(alloc),
+            mailbox_names: Table::new(alloc),
         }
     }
 
@@ -62,19 +65,32 @@ impl HeadTables {
         ensures ok { OnOk result (self.new ≡ record self.old { mailboxes = with_row mailbox_key row self.old.mailboxes }) }
         ensures err { OnErr result (self.new ≡ self.old) }
     {
-        self.mailboxes.insert(row)
+        add_named(
+            self.alloc,
+            &mut self.mailboxes,
+            &mut self.mailbox_names,
+            row,
+        )
     }
 
-    pub(crate) fn replace_mailbox(&mut self, row: Mailbox)
-        ensures { self.new ≡ record self.old { mailboxes = with_replaced mailbox_key row self.old.mailboxes } }
+    pub(crate) fn replace_mailbox(&mut self, row: Mailbox) -> Result<(), AllocError>
+        requires { IsSome (row_at mailbox_key (mailbox_key row) self.old.mailboxes) }
+        ensures ok { OnOk result (self.new ≡ record self.old { mailboxes = with_replaced mailbox_key row self.old.mailboxes }) }
+        ensures err { OnErr result (self.new ≡ self.old) }
+        ensures memory { OnErr result (IsRename row self.old.mailboxes) }
     {
-        self.mailboxes.replace(row);
+        replace_named(
+            self.alloc,
+            &mut self.mailboxes,
+            &mut self.mailbox_names,
+            row,
+        )
     }
 
     pub(crate) fn remove_mailbox(&mut self, id: u32)
         ensures { self.new ≡ record self.old { mailboxes = without mailbox_key (number_key id) self.old.mailboxes } }
     {
-        self.mailboxes.remove(Key::of_number(id as u64));
+        remove_named(&mut self.mailboxes, &mut self.mailbox_names, id);
     }
 
     pub(crate) fn insert_subscription(&mut self, row: Subscription) -> Result<(), AllocError>

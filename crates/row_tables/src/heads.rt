@@ -1,9 +1,7 @@
 // The rows of users, of their mailboxes and subscriptions, and the counter of mailbox ids.
-use crate::contents::copied;
-use crate::indexes::{NameEntry, Named};
+use crate::indexes::Named;
 use octets::Octets;
 use ordered_rows::{Key, Keyed};
-use std::alloc::{AllocError, Global};
 
 /// A row of `users`. `verifier` is what a password is tested against.
 #[derive(Drop, Debug)]
@@ -94,11 +92,32 @@ impl Named for User {
         self.id
     }
 
-    fn entry(&self, alloc: Global) -> Result<NameEntry, AllocError> {
-        Ok(NameEntry {
-            number: 0,
-            name: copied(alloc, &self.name)?,
-            id: self.id,
-        })
+    fn number(&self) -> u32 {
+        0
+    }
+
+    fn name(&self) -> &Octets {
+        &self.name
+    }
+}
+
+impl Named for Mailbox {
+    ghost use Rattle.std.specs.Prelude.{refl};
+    ghost use Rattle.row_tables.specs.Names.{mailbox_naming};
+
+    ghost names = { mailbox_naming };
+
+    ghost keyed = { λ row. refl };
+
+    fn id(&self) -> u32 {
+        self.id
+    }
+
+    fn number(&self) -> u32 {
+        self.owner
+    }
+
+    fn name(&self) -> &Octets {
+        &self.name
     }
 }

@@ -54,10 +54,11 @@ pub(crate) trait Named: Keyed {
         ensures id { result ≡ names.id self.now }
         ensures key { Self.key_of self.now ≡ number_key result };
 
-    fn entry(&self, alloc: Global) -> Result<NameEntry, AllocError>
-        ensures number { IfOk result (λ e. e.number ≡ names.number (names.place self.now)) }
-        ensures name { IfOk result (λ e. e.name ≡ names.name (names.place self.now)) }
-        ensures id { IfOk result (λ e. e.id ≡ names.id self.now) };
+    fn number(&self) -> u32
+        ensures { result ≡ names.number (names.place self.now) };
+
+    fn name(&self) -> &Octets
+        ensures { result.now ≡ names.name (names.place self.now) };
 
     ghost keyed: { (row : Self) → Self.Keyed.key_of row ≡ number_key (names.id row) };
 }

@@ -1,15 +1,50 @@
-// Rows put into a table whose rows have names and into its index, both or neither, and rows found by names.
-ghost use Rattle.std.specs.Prelude.{◌≡◌, OnOk, OnErr, None, map};
+// Changes of a table whose rows have names and of its index, both or neither, and rows found by names.
+ghost use Rattle.std.specs.Prelude.{◌≡◌, IfOk, OnOk, OnErr, None, IsSome, MatchOption, false, map};
 ghost use Rattle.std.specs.List.{filter, find};
 ghost use Rattle.std.specs.Option.{option_copied};
-ghost use Rattle.ordered_rows.specs.Listed.{is_in_group, row_at, with_row};
+ghost use Rattle.ordered_rows.specs.RowKey.{number_key, row_key};
+ghost use Rattle.ordered_rows.specs.Listed.{is_in_group, row_at, with_row, with_replaced, without};
 ghost use Rattle.row_tables.specs.Names.{AreNamed, IsFirst, name_key, name_entry_key};
 
+use crate::contents::copied;
 use crate::indexes::{NameEntry, Named};
 use crate::keys::owned;
-use ordered_rows::laws::{insert_undone, insertion, keys, numbers_after_insert};
+use ordered_rows::laws::{
+    insert_undone, insertion, keys, numbers_after_insert, replacement, row_after_remove,
+    rows_at_keys,
+};
 use ordered_rows::{Key, Table};
 use std::alloc::{AllocError, Global};
+
+// The entry of a row.
+fn entry<R: Named>(alloc: Global, row: &R) -> Result<NameEntry, AllocError>
+    ensures number { IfOk result (λ e. e.number ≡ R.names.number (R.names.place row.now)) }
+    ensures name { IfOk result (λ e. e.name ≡ R.names.name (R.names.place row.now)) }
+    ensures id { IfOk result (λ e. e.id ≡ R.names.id row.now) }
+{
+    Ok(NameEntry {
+        number: row.number(),
+        name: copied(alloc, row.name())?,
+        id: row.id(),
+    })
+}
+
+// The key of an entry with the name of a row.
+fn entry_key<'a, R: Named>(row: &'a R, id: u32) -> Key<'a>
+    ensures { row_key result ≡ name_key (R.names.number (R.names.place row.now)) (R.names.name (R.names.place row.now)) id }
+{
+    Key {
+        item: id as u64,
+        ..owned(row.number(), row.name().as_slice())
+    }
+}
+
+// Whether a row has the name of another, among the rows of the same number.
+fn has_name_of<R: Named>(row: &R, other: &R) -> bool
+    ensures { result ≡ R.names.has (R.names.place other.now) row.now }
+{
+    row.name().as_slice() == other.name().as_slice() && row.number() == other.number()
+}
 
 pub(crate) fn add_named<R: Named>(
     alloc: Global,
@@ -28,7 +63,7 @@ pub(crate) fn add_named<R: Named>(
     numbers_after_insert::<NameEntry>();
     insert_undone::<R>();
     let id = row.id();
-    let entry = row.entry(alloc)?;
+    let entry = entry(alloc, &row)?;
     rows.insert(row)?;
     match entries.insert(entry) {
         Ok(()) => Ok(()),
@@ -36,6 +71,57 @@ pub(crate) fn add_named<R: Named>(
             rows.remove(Key::of_number(id as u64));
             Err(e)
         }
+    }
+}
+
+// Puts a row in the place of the one with its id. Takes memory only where the name changes, and fails for want of it alone.
+pub(crate) fn replace_named<R: Named>(
+    alloc: Global,
+    rows: &mut Table<R>,
+    entries: &mut Table<NameEntry>,
+    row: R,
+) -> Result<(), AllocError>
+    requires named { AreNamed R.names entries.old rows.old }
+    requires there { IsSome (row_at R.key_of (R.key_of row) rows.old) }
+    ensures named { AreNamed R.names entries.new rows.new }
+    ensures ok { OnOk result (rows.new ≡ with_replaced R.key_of row rows.old) }
+    ensures err { OnErr result (rows.new ≡ rows.old) }
+    ensures memory { OnErr result (MatchOption (row_at R.key_of (R.key_of row) rows.old) ⊥ (λ old. R.names.has (R.names.place row) old ≡ false)) }
+{
+    keys();
+    rows_at_keys::<R>();
+    replacement::<R>();
+    row_after_remove::<R>();
+    row_after_remove::<NameEntry>();
+    numbers_after_insert::<R>();
+    numbers_after_insert::<NameEntry>();
+    insertion::<NameEntry>();
+    let _ = rows.rows();
+    let Some(old) = rows.get(row.key()) else {
+        return Ok(());
+    };
+    if has_name_of(old, &row) {
+        rows.replace(row);
+        return Ok(());
+    }
+    let entry = entry(alloc, &row)?;
+    entries.insert(entry)?;
+    entries.remove(entry_key(old, row.id()));
+    rows.replace(row);
+    Ok(())
+}
+
+// Takes out the row with an id, if it is there.
+pub(crate) fn remove_named<R: Named>(rows: &mut Table<R>, entries: &mut Table<NameEntry>, id: u32)
+    requires { AreNamed R.names entries.old rows.old }
+    ensures named { AreNamed R.names entries.new rows.new }
+    ensures rows { rows.new ≡ without R.key_of (number_key id) rows.old }
+{
+    keys();
+    rows_at_keys::<R>();
+    let _ = rows.rows();
+    if let Some(row) = rows.remove(Key::of_number(id as u64)) {
+        entries.remove(entry_key(&row, id));
     }
 }
 

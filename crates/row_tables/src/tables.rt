@@ -1,8 +1,10 @@
 // All tables, and their changes.
 ghost use Rattle.std.specs.Prelude.{◌≡◌, OnOk, OnErr};
 ghost use Rattle.row_tables.specs.TableRows.{no_rows};
-ghost use Rattle.row_tables.specs.Fits.{CanRun, Fits, IsInsertion, Runs, RunsPart, applied};
+ghost use Rattle.row_tables.specs.Fits.{CanRun, Fits, IsInsertion, Runs, RunsPart, TakesMemory, applied};
 ghost use Rattle.row_tables.specs.References.{AreClosed, AreDistinct, AreOrdered};
+ghost use Rattle.row_tables.specs.declared.heads.Mailbox.{Mailbox};
+ghost use Rattle.row_tables.specs.declared.change.RowChange.TheVariants.{UpdateMailbox};
 
 use crate::change::RowChange;
 use crate::head_tables::HeadTables;
@@ -77,18 +79,20 @@ impl Tables {
         let _ = shared.addresses.rows();
     }
 
-    /// Makes a change. Fails for want of memory alone, at an insertion, and then leaves the tables as they were.
+    /// Makes a change. Fails for want of memory alone, at an insertion or where a mailbox gets another owner or name, and then leaves
+    /// the tables as they were.
     pub fn apply(&mut self, change: RowChange) -> Result<(), AllocError>
         requires { Fits self.old change }
         ensures ok { OnOk result (self.new ≡ applied self.old change) }
         ensures err { OnErr result (self.new ≡ self.old) }
-        ensures memory { OnErr result (IsInsertion change) }
+        ensures memory { OnErr result (TakesMemory self.old change) }
     {
         self.are_whole();
         changes_keep_references();
         match change {
             RowChange::InsertUser(row) => self.heads.insert_user(row),
             RowChange::InsertMailbox(row) => self.heads.insert_mailbox(row),
+            RowChange::UpdateMailbox(row) => self.heads.replace_mailbox(row),
             RowChange::InsertMessageRow(row) => self.mails.insert_message(row),
             RowChange::InsertMailboxMessage(row) => self.marks.insert_mailbox_message(row),
             RowChange::InsertDeletedMessage(row) => self.marks.insert_deleted_message(row),
@@ -115,12 +119,12 @@ impl Tables {
     fn alter(&mut self, change: RowChange)
         requires fits { Fits self.old change }
         requires kind { IsInsertion change → ⊥ }
+        requires elsewhere { (row : Mailbox) → change ≡ UpdateMailbox row → ⊥ }
         ensures { self.new ≡ applied self.old change }
     {
         self.are_whole();
         changes_keep_references();
         match change {
-            RowChange::UpdateMailbox(row) => self.heads.replace_mailbox(row),
             RowChange::UpdateMailboxMessage(row) => self.marks.replace_mailbox_message(row),
             RowChange::UpdateCounters(row) => self.heads.set_counters(row),
             RowChange::RemoveMailboxMessage(key) => self.marks.remove_mailbox_message(key.0, key.1),
@@ -132,7 +136,7 @@ impl Tables {
                 self.heads.remove_mailbox(mailbox);
                 self.marks.drop_mailbox(mailbox);
             }
-            _ => {}
+            other => drop(other),
         }
     }
 

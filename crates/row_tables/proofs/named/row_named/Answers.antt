@@ -1,4 +1,4 @@
-use Rattle.std.proofs.Common.{◌≡◌, ℕ, List, ◌∷◌, [], map, sym, ap, subst, ◌∙◌}
+use Rattle.std.proofs.Common.{◌≡◌, ℕ, List, ◌∷◌, [], map, sym, ap, ◌∙◌}
 use Rattle.std.specs.List.{filter}
 use Rattle.ordered_rows.specs.RowKey.{RowKey}
 use Rattle.ordered_rows.specs.Listed.{is_in_group, row_at}

@@ -2,7 +2,7 @@ use Rattle.std.proofs.Common.{sym, subst}
 use Rattle.ordered_rows.specs.Listed.{with_row}
 use Rattle.row_tables.specs.Indexes.{AreIndexed}
 use Rattle.row_tables.specs.Keys.{content_entry_key}
-use Rattle.row_tables.proofs.Entries.{Finds, Keeps, content_is_new, indexed_with}
+use Rattle.row_tables.proofs.Entries.{Finds, Keeps, indexed_with}
 use Rattle.row_tables.proofs.shared.add_unique.Goals as goal
 
 pub returns-in-Ok-clause-indexed : goal.returns-in-Ok-clause-indexed
