@@ -19,7 +19,7 @@ use sha2::{Digest, Sha256};
 use std::alloc::{AllocError, Global};
 
 /// A body that was placed.
-#[derive(Drop, Debug)]
+#[derive(Drop)]
 pub struct BodyRef {
     /// The id of its row.
     pub id: u64,

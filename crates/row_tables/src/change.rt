@@ -8,7 +8,7 @@ use octets::Octets;
 
 /// A change of one row, or of all rows of a mailbox. Updates of `mailboxes`, `mailbox_messages` and `counters` and removals from
 /// `mailbox_messages`, `flags` and `subscriptions` may fit; the other updates and removals never do. A removal has the key.
-#[derive(Drop, Debug)]
+#[derive(Drop)]
 pub enum RowChange {
     InsertUser(User),
     UpdateUser(User),
