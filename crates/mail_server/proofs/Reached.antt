@@ -15,11 +15,11 @@ use Rattle.port_model.specs.History.{events, sent}
 use Rattle.port_model.specs.Playing.{playing, answer_to_read}
 use Rattle.mail_model.specs.declared.standing.Standing.{Standing}
 use Rattle.mail_model.specs.declared.standing.Standing.TheVariants.{Open, Closing}
+use Rattle.mail_model.specs.Step.{World}
 use Rattle.mail_model.specs.Machine.{Session, is_open, after}
 use Rattle.mail_rounds.specs.declared.link.Link.{Link}
 use Rattle.mail_rounds.specs.Held.{Held, session_of, queue_of, Ascending}
 use Rattle.mail_rounds.specs.Calls.{Offers, OffersQueue, Closes, ClosesEmpty, Asks, AsksIdle, ReadsOnce, AcceptsBelow, clocked, read_room}
-use Rattle.mail_server.specs.Script.{first_world}
 use Rattle.mail_rounds.specs.Serves.{Serves, Answered, is_lost}
 use Rattle.mail_server.specs.Rounds.{plan_of, left_in, is_empty, unsent, linked, for_each, and_send, and_close, and_read, and_accept, offers, closes, flush, take}
 use Rattle.mail_server.proofs.Told.{Told, Plays, PlaysKept}
@@ -30,9 +30,9 @@ unsent-case : (lost : Bool) (sent_bytes queue out : List ℕ) → Answered lost 
 unsent-case true sent_bytes queue out a = sym (a.front refl).0
 unsent-case false sent_bytes queue out a = ap (drop (length sent_bytes)) (sym (a.whole refl)) ∙ drop-append_seam sent_bytes queue
 
-unsent-queue : (calls : List PortCall) (held : Held) → Serves first_world calls held → (number : ℕ) → unsent calls number ≡ queue_of number held.links
-unsent-queue calls held serves number =
-    unsent-case (is_lost number (events calls)) (sent calls number) (queue_of number held.links) ((after first_world calls).out number) (serves.answered number)
+unsent-queue : (first : World) (calls : List PortCall) (held : Held) → Serves first calls held → (number : ℕ) → unsent first calls number ≡ queue_of number held.links
+unsent-queue first calls held serves number =
+    unsent-case (is_lost number (events calls)) (sent calls number) (queue_of number held.links) ((after first calls).out number) (serves.answered number)
 
 AreUnsent : (ℕ → List ℕ) → List Link → Type 0
 AreUnsent bytes [] = Unit {0}
@@ -49,8 +49,8 @@ are-unsent bytes low last (link ∷ links) h all =
           rw other at (all number (omega (arith, above, h.0)))),
     )
 
-serves-unsent : (calls : List PortCall) (held : Held) → Serves first_world calls held → AreUnsent (unsent calls) held.links
-serves-unsent calls held serves = are-unsent (unsent calls) 0 held.last held.links serves.ordered (λ number above. unsent-queue calls held serves number)
+serves-unsent : (first : World) (calls : List PortCall) (held : Held) → Serves first calls held → AreUnsent (unsent first calls) held.links
+serves-unsent first calls held serves = are-unsent (unsent first calls) 0 held.last held.links serves.ordered (λ number above. unsent-queue first calls held serves number)
 
 -- Offers
 
@@ -71,11 +71,11 @@ sends-are script bytes (link ∷ links) before later u c =
     sends-are script bytes links c.0 later u.1 c.2
     ∙ ap (λ (calls : List PortCall). for_each (λ session. and_send script session.number (bytes session.number)) (map session_of links) calls) one
 
-pub offers-are : (script : List Event) (held : Held) (before later : List PortCall) → Serves first_world before held
-    → Chain (Told Offers (Plays script)) held.links before later → later ≡ offers script before
-offers-are script held before later serves c =
-    sends-are script (unsent before) held.links before later (serves-unsent before held serves) c
-    ∙ ap (λ (ss : List Session). for_each (λ session. and_send script session.number (unsent before session.number)) ss before) serves.sessions
+pub offers-are : (first : World) (script : List Event) (held : Held) (before later : List PortCall) → Serves first before held
+    → Chain (Told Offers (Plays script)) held.links before later → later ≡ offers first script before
+offers-are first script held before later serves c =
+    sends-are script (unsent first before) held.links before later (serves-unsent first before held serves) c
+    ∙ ap (λ (ss : List Session). for_each (λ session. and_send script session.number (unsent first before session.number)) ss before) serves.sessions
 
 -- Closes
 
@@ -85,27 +85,27 @@ one-close Open number queue before later h = same_Some later before h
 one-close Closing number [] before later h = h
 one-close Closing number (byte ∷ queue) before later h = same_Some later before h
 
-closes-chain : (script : List Event) (bytes : ℕ → List ℕ) (links : List Link) (before later : List PortCall) → AreUnsent bytes links
-    → Chain (Told Closes (PlaysKept script)) links before later
+closes-chain : (first : World) (script : List Event) (bytes : ℕ → List ℕ) (links : List Link) (before later : List PortCall) → AreUnsent bytes links
+    → Chain (Told Closes (PlaysKept first script)) links before later
     → later ≡ for_each (λ session. and_close session.number (not (is_open session.standing) && is_empty (bytes session.number))) (map session_of links) before
 unfolding AreUnsent
-closes-chain script bytes [] before later u c = c
-closes-chain script bytes (link ∷ links) before later u c =
+closes-chain first script bytes [] before later u c = c
+closes-chain first script bytes (link ∷ links) before later u c =
     let one : c.0 ≡ and_close link.number (not (is_open link.standing) && is_empty (bytes link.number)) before =
     one-close link.standing link.number link.queue.items before c.0 c.1.step
     ∙ ap (λ (queue : List ℕ). and_close link.number (not (is_open link.standing) && is_empty queue) before) (sym u.0) in
-    closes-chain script bytes links c.0 later u.1 c.2
+    closes-chain first script bytes links c.0 later u.1 c.2
     ∙ ap (λ (calls : List PortCall). for_each (λ session. and_close session.number (not (is_open session.standing) && is_empty (bytes session.number))) (map session_of links) calls) one
 
-pub closes-are : (script : List Event) (held : Held) (before later : List PortCall) → Serves first_world before held
-    → Chain (Told Closes (PlaysKept script)) held.links before later → later ≡ closes before
-closes-are script held before later serves c =
-    closes-chain script (unsent before) held.links before later (serves-unsent before held serves) c
-    ∙ ap (λ (ss : List Session). for_each (λ session. and_close session.number (not (is_open session.standing) && is_empty (unsent before session.number))) ss before) serves.sessions
+pub closes-are : (first : World) (script : List Event) (held : Held) (before later : List PortCall) → Serves first before held
+    → Chain (Told Closes (PlaysKept first script)) held.links before later → later ≡ closes first before
+closes-are first script held before later serves c =
+    closes-chain first script (unsent first before) held.links before later (serves-unsent first before held serves) c
+    ∙ ap (λ (ss : List Session). for_each (λ session. and_close session.number (not (is_open session.standing) && is_empty (unsent first before session.number))) ss before) serves.sessions
 
-pub flush-is : (script : List Event) (before mid later : List PortCall) → mid ≡ offers script before → later ≡ closes mid → later ≡ flush script before
+pub flush-is : (first : World) (script : List Event) (before mid later : List PortCall) → mid ≡ offers first script before → later ≡ closes first mid → later ≡ flush first script before
 unfolding flush
-flush-is script before mid later o c = c ∙ ap closes o
+flush-is first script before mid later o c = c ∙ ap (closes first) o
 
 -- Reads
 
@@ -149,17 +149,17 @@ one-accept script false last before later h p =
     let played : Plays script (Accept (last + 1) h.0 ∷ before) = subst (Plays script) h.1 p in
     h.1 ∙ ap (λ (a : Result (Option Kind) ListenFault). Accept (last + 1) a ∷ before) played.0
 
-pub take-is : (script : List Event) (held : Held) (before mid later : List PortCall) → Serves first_world before held
+pub take-is : (first : World) (script : List Event) (held : Held) (before mid later : List PortCall) → Serves first before held
     → AcceptsBelow (nat_eq held.last (Rattle.std.specs.Prelude.◌-◌ (Rattle.std.specs.Prelude.◌^◌ 2 32) 1)) held.last (Some before) (Some mid) → Plays script mid
-    → Chain (Told Asks (Plays script)) held.links mid later → later ≡ take script before
+    → Chain (Told Asks (Plays script)) held.links mid later → later ≡ take first script before
 unfolding take
-take-is script held before mid later serves accepts plays c =
+take-is first script held before mid later serves accepts plays c =
     let full : ℕ → Bool = λ last. nat_eq last (Rattle.std.specs.Prelude.◌-◌ (Rattle.std.specs.Prelude.◌^◌ 2 32) 1) in
-    let accepted : mid ≡ and_accept script (after first_world before).last (full (after first_world before).last) before =
+    let accepted : mid ≡ and_accept script (after first before).last (full (after first before).last) before =
     one-accept script (full held.last) held.last before mid accepts plays ∙ ap (λ (last : ℕ). and_accept script last (full last) before) serves.latest in
-    asks-chain script (unsent before) held.links mid later (serves-unsent before held serves) c
-    ∙ ap (λ (ss : List Session). for_each (λ session. and_read script session.number (is_open session.standing && is_empty (unsent before session.number))) ss mid) serves.sessions
-    ∙ ap (λ (calls : List PortCall). for_each (λ session. and_read script session.number (is_open session.standing && is_empty (unsent before session.number))) (linked before) calls) accepted
+    asks-chain script (unsent first before) held.links mid later (serves-unsent first before held serves) c
+    ∙ ap (λ (ss : List Session). for_each (λ session. and_read script session.number (is_open session.standing && is_empty (unsent first before session.number))) ss mid) serves.sessions
+    ∙ ap (λ (calls : List PortCall). for_each (λ session. and_read script session.number (is_open session.standing && is_empty (unsent first before session.number))) (linked first before) calls) accepted
 
 -- Reads and accepts send nothing.
 
@@ -183,6 +183,6 @@ accept-sends : (script : List Event) (last : ℕ) (full : Bool) (calls : List Po
 accept-sends script last true calls who = refl
 accept-sends script last false calls who = refl
 
-pub take-sends : (script : List Event) (calls : List PortCall) (who : ℕ) → sent (take script calls) who ≡ sent calls who
+pub take-sends : (first : World) (script : List Event) (calls : List PortCall) (who : ℕ) → sent (take first script calls) who ≡ sent calls who
 unfolding take
-take-sends script calls who = reads-send script _ (linked calls) _ who ∙ accept-sends script _ _ calls who
+take-sends first script calls who = reads-send script _ (linked first calls) _ who ∙ accept-sends script _ _ calls who

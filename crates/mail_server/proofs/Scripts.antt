@@ -15,7 +15,6 @@ use Rattle.port_model.specs.History.{PortEvent}
 use Rattle.imap_lexer.specs.Units.{Cut, first}
 use Rattle.mail_model.specs.Step.{Shared, World}
 use Rattle.mail_model.specs.Machine.{Machine, Session, Taking, machine, take_event, takes, becomes, session_at, of_session, is_open, awaits_more, take_byte, take_piece, take_unit, taking_of, hears_piece, leaves}
-use Rattle.mail_server.specs.Script.{first_world}
 use Rattle.mail_server.specs.Script.{script_machine, port_event, and_opened, port_events, newest_first}
 use Rattle.mail_rounds.specs.Serves.{is_loss}
 use Rattle.mail_server.specs.Rounds.{is_loss_of, has_loss}
@@ -368,9 +367,9 @@ newest-runs world (event ∷ later) older next h =
         subst (λ (n : ℕ). and_opened n event ≡ (take_event (machine world older) (port_event n event)).last + 1) (sym h)
         (opened-suc (machine world older).last event ∙ ap (λ (n : ℕ). n + 1) (sym (event-last (machine world older) event)))
 
-pub script-runs : (events : List Event) → runs (machine first_world []) events ≡ script_machine events
+pub script-runs : (world : World) (events : List Event) → runs (machine world []) events ≡ script_machine world events
 unfolding machine
-script-runs events = sym (newest-runs first_world events [] 1 refl)
+script-runs world events = sym (newest-runs world events [] 1 refl)
 
 last-count : (last : ℕ) (event : Event) (later : List Event) → and_opened last event + count_by opens later ≡ last + count_by opens (event ∷ later)
 last-count last (Opens kind) later = omega (arith, sum_by-cons (λ (e : Event). cond (opens e) 1 0) (Opens kind) later)
@@ -391,9 +390,9 @@ numbers-last kind later closed may lost m goal l =
     let e : goal.last ≡ m.last + count_by opens (Opens kind ∷ later) = ap (λ (x : Machine). x.last) (sym l.whole) ∙ runs-last m (Opens kind ∷ later) in
     omega (arith, e, last-count m.last (Opens kind) later)
 
-pub script-last : (events : List Event) → (script_machine events).last ≡ count_by opens events
+pub script-last : (world : World) (events : List Event) → (script_machine world events).last ≡ count_by opens events
 unfolding machine
-script-last events = ap (λ (x : Machine). x.last) (sym (script-runs events)) ∙ runs-last (machine first_world []) events ∙ (omega arith)
+script-last world events = ap (λ (x : Machine). x.last) (sym (script-runs world events)) ∙ runs-last (machine world []) events ∙ (omega arith)
 
 and-parts : (a b : Bool) → a && b ≡ true → (a ≡ true) × (b ≡ true)
 and-parts true b h = (refl, h)
@@ -424,19 +423,19 @@ next-from before (event ∷ later) o p = (
       (next-from (before ++ event ∷ []) later o.1 (All-tail IsPiece event later p)),
 )
 
-next-start : (events : List Event) → AreEvents events → AreNext (λ number. false) (machine first_world []).last events
+next-start : (world : World) (events : List Event) → AreEvents events → AreNext (λ number. false) (machine world []).last events
 unfolding machine
-next-start events are = next-from [] events are.on_open are.pieces
+next-start world events are = next-from [] events are.on_open are.pieces
 
-numbered-start : AreNumbered 0 (machine first_world []).sessions (machine first_world []).last
+numbered-start : (world : World) → AreNumbered 0 (machine world []).sessions (machine world []).last
 unfolding machine
-numbered-start = refl
+numbered-start world = refl
 
-pub leads-start : (events : List Event) → AreEvents events
-    → Leads events (λ number. false) (λ number. has_loss number events) (λ number. false) (machine first_world []) (script_machine events)
-leads-start events are = record {
-  whole = script-runs events;
-  next = next-start events are;
-  numbered = numbered-start;
+pub leads-start : (world : World) (events : List Event) → AreEvents events
+    → Leads events (λ number. false) (λ number. has_loss number events) (λ number. false) (machine world []) (script_machine world events)
+leads-start world events are = record {
+  whole = script-runs world events;
+  next = next-start world events are;
+  numbered = numbered-start world;
   losses = record { were = λ number e. absurd (cc); will = λ number e. e };
 }

@@ -18,10 +18,10 @@ use Rattle.port_model.specs.History.{PortEvent, Opened, Piece as CamePiece, Lost
 use Rattle.port_model.specs.Playing.{Playing, IsPlayed, playing, is_of, given, moment_of, after_read, after_send, after_accept, rest_of, answer_to_read, answer_to_send, answer_to_accept, loses}
 use Rattle.mail_model.specs.declared.standing.Standing.{Standing}
 use Rattle.mail_model.specs.declared.standing.Standing.TheVariants.{Open, Closing}
+use Rattle.mail_model.specs.Step.{World}
 use Rattle.mail_model.specs.Machine.{Machine, Session, machine, after, take_event, is_open}
 use Rattle.mail_rounds.specs.declared.link.Link.{Link}
 use Rattle.mail_rounds.specs.Calls.{Grows, Offers, OffersQueue, Closes, ClosesEmpty, Asks, AsksIdle, ReadsOnce, clocked, AcceptsBelow, read_room}
-use Rattle.mail_server.specs.Script.{first_world}
 use Rattle.mail_server.specs.Script.{script_machine, port_event}
 use Rattle.mail_rounds.specs.Serves.{OpenAreKept, is_lost}
 use Rattle.mail_server.specs.Rounds.{plan_of, left_in, has_loss}
@@ -58,10 +58,10 @@ abbrev pub Plays : List Event → List PortCall → Type 0
 Plays script calls = IsPlayed (plan_of script) calls
 
 -- .. and no session that is open is closed.
-pub record PlaysKept (script : List Event) (calls : List PortCall) : Type 0 where
+pub record PlaysKept (first : World) (script : List Event) (calls : List PortCall) : Type 0 where
   pub plays : Plays script calls
-  pub open_kept : OpenAreKept calls (after first_world calls).sessions
-  pub later_open : (number : ℕ) → (after first_world calls).last < number → is_closed calls number ≡ false
+  pub open_kept : OpenAreKept calls (after first calls).sessions
+  pub later_open : (number : ℕ) → (after first calls).last < number → is_closed calls number ≡ false
 
 -- Offers
 
@@ -90,30 +90,30 @@ sends-none script (Send number bytes answer ∷ older) = ap (λ (s : List ℕ). 
 sends-none script (Close number ∷ older) = sends-none script older
 
 -- A history by calls that leave the script as it was,
-on_same : (script : List Event) (before later : List PortCall) → left_in script later ≡ left_in script before → events later ≡ events before → is_closed later ≡ is_closed before
-    → IsOn script before → IsOn script later
-on_same script before later left are closed on =
-    subst (λ (c : ℕ → Bool). Leads (left_in script later) c (λ n. has_loss n script) (λ n. is_lost n (events later)) (machine first_world (events later)) (script_machine script)) (sym closed)
-    (subst (λ (es : List PortEvent). Leads (left_in script later) (is_closed before) (λ n. has_loss n script) (λ n. is_lost n es) (machine first_world es) (script_machine script)) (sym are)
-    (subst (λ (l : List Event). Leads l (is_closed before) (λ n. has_loss n script) (λ n. is_lost n (events before)) (after first_world before) (script_machine script)) (sym left) on))
+on_same : (first : World) (script : List Event) (before later : List PortCall) → left_in script later ≡ left_in script before → events later ≡ events before → is_closed later ≡ is_closed before
+    → IsOn first script before → IsOn first script later
+on_same first script before later left are closed on =
+    subst (λ (c : ℕ → Bool). Leads (left_in script later) c (λ n. has_loss n script) (λ n. is_lost n (events later)) (machine first (events later)) (script_machine first script)) (sym closed)
+    (subst (λ (es : List PortEvent). Leads (left_in script later) (is_closed before) (λ n. has_loss n script) (λ n. is_lost n es) (machine first es) (script_machine first script)) (sym are)
+    (subst (λ (l : List Event). Leads l (is_closed before) (λ n. has_loss n script) (λ n. is_lost n (events before)) (after first before) (script_machine first script)) (sym left) on))
 
-on_event : (script : List Event) (before : List PortCall) (event : Event) (rest : List Event) → IsOn script before → left_in script before ≡ event ∷ rest
-    → (let es = port_event ((after first_world before).last + 1) event ∷ events before in
-    Leads rest (is_closed before) (λ n. has_loss n script) (λ n. is_lost n es) (machine first_world es) (script_machine script))
+on_event : (first : World) (script : List Event) (before : List PortCall) (event : Event) (rest : List Event) → IsOn first script before → left_in script before ≡ event ∷ rest
+    → (let es = port_event ((after first before).last + 1) event ∷ events before in
+    Leads rest (is_closed before) (λ n. has_loss n script) (λ n. is_lost n es) (machine first es) (script_machine first script))
 unfolding machine
-on_event script before event rest on e =
-    leads-next event rest (is_closed before) (λ n. has_loss n script) (λ n. is_lost n (events before)) (after first_world before) (script_machine script)
-    (subst (λ (l : List Event). Leads l (is_closed before) (λ n. has_loss n script) (λ n. is_lost n (events before)) (after first_world before) (script_machine script)) e on)
+on_event first script before event rest on e =
+    leads-next event rest (is_closed before) (λ n. has_loss n script) (λ n. is_lost n (events before)) (after first before) (script_machine first script)
+    (subst (λ (l : List Event). Leads l (is_closed before) (λ n. has_loss n script) (λ n. is_lost n (events before)) (after first before) (script_machine first script)) e on)
 
 -- and by calls that take its next event.
-on_next : (script : List Event) (before later : List PortCall) (event : Event) (rest : List Event) → left_in script before ≡ event ∷ rest → left_in script later ≡ rest
-    → events later ≡ port_event ((after first_world before).last + 1) event ∷ events before → is_closed later ≡ is_closed before
-    → IsOn script before → IsOn script later
-on_next script before later event rest e left are closed on =
-    subst (λ (c : ℕ → Bool). Leads (left_in script later) c (λ n. has_loss n script) (λ n. is_lost n (events later)) (machine first_world (events later)) (script_machine script)) (sym closed)
-    (subst (λ (es : List PortEvent). Leads (left_in script later) (is_closed before) (λ n. has_loss n script) (λ n. is_lost n es) (machine first_world es) (script_machine script)) (sym are)
-    (subst (λ (l : List Event). let es = port_event ((after first_world before).last + 1) event ∷ events before in
-    Leads l (is_closed before) (λ n. has_loss n script) (λ n. is_lost n es) (machine first_world es) (script_machine script)) (sym left) (on_event script before event rest on e)))
+on_next : (first : World) (script : List Event) (before later : List PortCall) (event : Event) (rest : List Event) → left_in script before ≡ event ∷ rest → left_in script later ≡ rest
+    → events later ≡ port_event ((after first before).last + 1) event ∷ events before → is_closed later ≡ is_closed before
+    → IsOn first script before → IsOn first script later
+on_next first script before later event rest e left are closed on =
+    subst (λ (c : ℕ → Bool). Leads (left_in script later) c (λ n. has_loss n script) (λ n. is_lost n (events later)) (machine first (events later)) (script_machine first script)) (sym closed)
+    (subst (λ (es : List PortEvent). Leads (left_in script later) (is_closed before) (λ n. has_loss n script) (λ n. is_lost n es) (machine first es) (script_machine first script)) (sym are)
+    (subst (λ (l : List Event). let es = port_event ((after first before).last + 1) event ∷ events before in
+    Leads l (is_closed before) (λ n. has_loss n script) (λ n. is_lost n es) (machine first es) (script_machine first script)) (sym left) (on_event first script before event rest on e)))
 
 send-left : (number : ℕ) (left : List Event) → loses left number ≡ false → after_send left number ≡ left
 send-left number [] h = refl
@@ -132,10 +132,10 @@ send-loses number (Loses who ∷ later) h =
     (later, ap (λ (n : ℕ). Loses n ∷ later) e, rw h refl)
 
 -- What an offer of a queue leaves: all of it was sent, or the link is lost and nothing was.
-pub record OffersAll (script : List Event) (number : ℕ) (queue : List ℕ) (before later : List PortCall) : Type 0 where
-  pub on : IsOn script later
+pub record OffersAll (first : World) (script : List Event) (number : ℕ) (queue : List ℕ) (before later : List PortCall) : Type 0 where
+  pub on : IsOn first script later
   pub shorter : length (left_in script later) ≤ length (left_in script before)
-  pub out_same : (who : ℕ) → (after first_world later).out who ≡ (after first_world before).out who
+  pub out_same : (who : ℕ) → (after first later).out who ≡ (after first before).out who
   pub others : (who : ℕ) → (number == who) ≡ false → (sent later who ≡ sent before who) × (is_lost who (events later) ≡ is_lost who (events before))
   pub own : sent later number ≡ sent before number ++ cond (is_lost number (events later)) [] queue
   pub still : is_lost number (events later) ≡ false → is_lost number (events before) ≡ false
@@ -144,19 +144,19 @@ none-either : (lost : Bool) (bytes : List ℕ) → bytes ≡ bytes ++ cond lost 
 none-either true bytes = sym (append-nil bytes)
 none-either false bytes = sym (append-nil bytes)
 
-offers_none : (script : List Event) (number : ℕ) (before : List PortCall) → IsOn script before → OffersAll script number [] before before
-offers_none script number before on =
+offers_none : (first : World) (script : List Event) (number : ℕ) (before : List PortCall) → IsOn first script before → OffersAll first script number [] before before
+offers_none first script number before on =
     record { on = on; shorter = omega arith; out_same = λ who. refl; others = λ who other. (refl, refl); own = none-either (is_lost number (events before)) (sent before number); still = λ h. h }
 
 pub itself : (number : ℕ) → (number == number) ≡ true
 itself number = grind (arith, nat_tests)
 
-offers_took : (script : List Event) (number : ℕ) (queue : List ℕ) (before : List PortCall) → loses (left_in script before) number ≡ false → is_lost number (events before) ≡ false
-    → IsOn script before → OffersAll script number queue before (Send number queue (Took (length queue)) ∷ before)
-offers_took script number queue before none linked on =
+offers_took : (first : World) (script : List Event) (number : ℕ) (queue : List ℕ) (before : List PortCall) → loses (left_in script before) number ≡ false → is_lost number (events before) ≡ false
+    → IsOn first script before → OffersAll first script number queue before (Send number queue (Took (length queue)) ∷ before)
+offers_took first script number queue before none linked on =
     let left : after_send (left_in script before) number ≡ left_in script before = send-left number (left_in script before) none in
     record {
-      on = on_same script before (Send number queue (Took (length queue)) ∷ before) left refl refl on;
+      on = on_same first script before (Send number queue (Took (length queue)) ∷ before) left refl refl on;
       shorter = omega (arith, ap (λ (l : List Event). length l) left);
       out_same = λ who. refl;
       others = λ who other. (rw other refl, refl);
@@ -164,18 +164,18 @@ offers_took script number queue before none linked on =
       still = λ h. h;
     }
 
-after-lost : (calls : List PortCall) (number : ℕ) (bytes : List ℕ) → after first_world (Send number bytes SendLost ∷ calls) ≡ take_event (after first_world calls) (WentLost number)
+after-lost : (first : World) (calls : List PortCall) (number : ℕ) (bytes : List ℕ) → after first (Send number bytes SendLost ∷ calls) ≡ take_event (after first calls) (WentLost number)
 unfolding machine
-after-lost calls number bytes = refl
+after-lost first calls number bytes = refl
 
-offers_lost : (script : List Event) (number : ℕ) (queue : List ℕ) (before : List PortCall) → loses (left_in script before) number ≡ true
-    → IsOn script before → OffersAll script number queue before (Send number queue SendLost ∷ before)
-offers_lost script number queue before next on =
+offers_lost : (first : World) (script : List Event) (number : ℕ) (queue : List ℕ) (before : List PortCall) → loses (left_in script before) number ≡ true
+    → IsOn first script before → OffersAll first script number queue before (Send number queue SendLost ∷ before)
+offers_lost first script number queue before next on =
     let parts = send-loses number (left_in script before) next in
     record {
-      on = on_next script before (Send number queue SendLost ∷ before) (Loses number) parts.0 parts.1 parts.2 refl refl on;
+      on = on_next first script before (Send number queue SendLost ∷ before) (Loses number) parts.0 parts.1 parts.2 refl refl on;
       shorter = omega (arith, ap (λ (l : List Event). length l) parts.1, ap (λ (l : List Event). length l) parts.2);
-      out_same = λ who. ap (λ (m : Machine). m.out who) (after-lost before number queue) ∙ leaves-out (after first_world before) number who;
+      out_same = λ who. ap (λ (m : Machine). m.out who) (after-lost first before number queue) ∙ leaves-out (after first before) number who;
       others = λ who other. (rw other refl, rw other refl);
       own = rw (itself number) refl;
       still = λ h. let bad : true ≡ false = rw (itself number) at h in absurd (cc);
@@ -193,27 +193,27 @@ answer-took : (script : List Event) (number offered : ℕ) (before : List PortCa
     → answer_to_send (playing (plan_of script) before) number offered ≡ Took offered
 answer-took script number offered before none = rw (none, sends-none script before) refl
 
-told_queue : (script : List Event) (number : ℕ) (queue : List ℕ) (before later : List PortCall) → OffersQueue number queue (Some before) (Some later)
-    → Plays script later → IsOn script before → (is_lost number (events before) ≡ true → queue ≡ []) → OffersAll script number queue before later
-told_queue script number [] before later h p on none = subst (OffersAll script number [] before) (sym (same_Some later before h)) (offers_none script number before on)
-told_queue script number (byte ∷ queue) before later h p on none =
-    subst (OffersAll script number (byte ∷ queue) before) (sym h.1) (send-case (loses (left_in script before) number) refl)
+told_queue : (first : World) (script : List Event) (number : ℕ) (queue : List ℕ) (before later : List PortCall) → OffersQueue number queue (Some before) (Some later)
+    → Plays script later → IsOn first script before → (is_lost number (events before) ≡ true → queue ≡ []) → OffersAll first script number queue before later
+told_queue first script number [] before later h p on none = subst (OffersAll first script number [] before) (sym (same_Some later before h)) (offers_none first script number before on)
+told_queue first script number (byte ∷ queue) before later h p on none =
+    subst (OffersAll first script number (byte ∷ queue) before) (sym h.1) (send-case (loses (left_in script before) number) refl)
   where
     played : Plays script (Send number (byte ∷ queue) h.0 ∷ before)
     played = subst (Plays script) h.1 p
 
-    send-case : (lost : Bool) → loses (left_in script before) number ≡ lost → OffersAll script number (byte ∷ queue) before (Send number (byte ∷ queue) h.0 ∷ before)
+    send-case : (lost : Bool) → loses (left_in script before) number ≡ lost → OffersAll first script number (byte ∷ queue) before (Send number (byte ∷ queue) h.0 ∷ before)
     send-case true next =
-        subst (λ (a : PortSend). OffersAll script number (byte ∷ queue) before (Send number (byte ∷ queue) a ∷ before))
-        (sym (played.0 ∙ answer-lost script number (length (byte ∷ queue)) before next)) (offers_lost script number (byte ∷ queue) before next on)
+        subst (λ (a : PortSend). OffersAll first script number (byte ∷ queue) before (Send number (byte ∷ queue) a ∷ before))
+        (sym (played.0 ∙ answer-lost script number (length (byte ∷ queue)) before next)) (offers_lost first script number (byte ∷ queue) before next on)
     send-case false next =
         let linked : is_lost number (events before) ≡ false = not-true (is_lost number (events before)) (λ lost. absurd (cc (none lost))) in
-        subst (λ (a : PortSend). OffersAll script number (byte ∷ queue) before (Send number (byte ∷ queue) a ∷ before))
-        (sym (played.0 ∙ answer-took script number (length (byte ∷ queue)) before next)) (offers_took script number (byte ∷ queue) before next linked on)
+        subst (λ (a : PortSend). OffersAll first script number (byte ∷ queue) before (Send number (byte ∷ queue) a ∷ before))
+        (sym (played.0 ∙ answer-took script number (length (byte ∷ queue)) before next)) (offers_took first script number (byte ∷ queue) before next linked on)
 
-pub told_offer : (script : List Event) (link : Link) (before later : List PortCall) → Told Offers (Plays script) link before later → IsOn script before
-    → (is_lost link.number (events before) ≡ true → link.queue.items ≡ []) → OffersAll script link.number link.queue.items before later
-told_offer script link before later t on none = told_queue script link.number link.queue.items before later t.step t.holds on none
+pub told_offer : (first : World) (script : List Event) (link : Link) (before later : List PortCall) → Told Offers (Plays script) link before later → IsOn first script before
+    → (is_lost link.number (events before) ≡ true → link.queue.items ≡ []) → OffersAll first script link.number link.queue.items before later
+told_offer first script link before later t on none = told_queue first script link.number link.queue.items before later t.step t.holds on none
 
 -- Closes
 
@@ -233,17 +233,17 @@ none_open-closed number calls (session ∷ sessions) h = (
   none_open-closed number calls sessions h.1,
 )
 
-kept-before : (script : List Event) (number : ℕ) (calls : List PortCall) → PlaysKept script (Close number ∷ calls) → PlaysKept script calls
-kept-before script number calls p =
+kept-before : (first : World) (script : List Event) (number : ℕ) (calls : List PortCall) → PlaysKept first script (Close number ∷ calls) → PlaysKept first script calls
+kept-before first script number calls p =
     record {
       plays = p.plays.1;
-      open_kept = open_kept-before number calls (after first_world calls).sessions p.open_kept;
+      open_kept = open_kept-before number calls (after first calls).sessions p.open_kept;
       later_open = λ who above. (or-parts (number == who) (is_closed calls who) (p.later_open who above)).1;
     }
 
 -- What a close leaves.
-pub record ClosesOn (script : List Event) (before later : List PortCall) : Type 0 where
-  pub on : IsOn script later
+pub record ClosesOn (first : World) (script : List Event) (before later : List PortCall) : Type 0 where
+  pub on : IsOn first script later
   pub shorter : length (left_in script later) ≤ length (left_in script before)
   pub same : events later ≡ events before
   pub sent_same : (who : ℕ) → sent later who ≡ sent before who
@@ -259,27 +259,27 @@ or-true : (a b : Bool) → b ≡ true → a || b ≡ true
 or-true true b h = refl
 or-true false b h = h
 
-at-most : (script : List Event) (number : ℕ) (calls : List PortCall) → PlaysKept script (Close number ∷ calls) → number ≤ (after first_world calls).last
-at-most script number calls p =
-    elim (leb_tells number (after first_world calls).last) [
+at-most : (first : World) (script : List Event) (number : ℕ) (calls : List PortCall) → PlaysKept first script (Close number ∷ calls) → number ≤ (after first calls).last
+at-most first script number calls p =
+    elim (leb_tells number (after first calls).last) [
       | inl low ↦ low.1
       | inr high ↦ let open_still : (number == number) ≡ false = (or-parts (number == number) (is_closed calls number) (p.later_open number high.1)).0 in
           let same : (number == number) ≡ true = itself number in absurd (cc)
     ]
 
-closes_one : (script : List Event) (number : ℕ) (before : List PortCall) → PlaysKept script (Close number ∷ before) → IsOn script before → ClosesOn script before (Close number ∷ before)
-closes_one script number before p on =
+closes_one : (first : World) (script : List Event) (number : ℕ) (before : List PortCall) → PlaysKept first script (Close number ∷ before) → IsOn first script before → ClosesOn first script before (Close number ∷ before)
+closes_one first script number before p on =
     record {
-      on = leads-close number (left_in script before) (is_closed before) (λ n. has_loss n script) (λ n. is_lost n (events before)) (after first_world before) (script_machine script)
-          (none_open-closed number before (after first_world before).sessions p.open_kept) (at-most script number before p) on;
+      on = leads-close number (left_in script before) (is_closed before) (λ n. has_loss n script) (λ n. is_lost n (events before)) (after first before) (script_machine first script)
+          (none_open-closed number before (after first before).sessions p.open_kept) (at-most first script number before p) on;
       shorter = filter-shorter _ (left_in script before);
       same = refl;
       sent_same = λ who. refl;
       still = λ who h. or-true (number == who) (is_closed before who) h;
     }
 
-closes_none : (script : List Event) (before : List PortCall) → IsOn script before → ClosesOn script before before
-closes_none script before on = record { on = on; shorter = omega arith; same = refl; sent_same = λ who. refl; still = λ who h. h }
+closes_none : (first : World) (script : List Event) (before : List PortCall) → IsOn first script before → ClosesOn first script before before
+closes_none first script before on = record { on = on; shorter = omega arith; same = refl; sent_same = λ who. refl; still = λ who h. h }
 
 -- A step closes a link, or nothing happens.
 abbrev ClosesMaybe : ℕ → Option (List PortCall) → Option (List PortCall) → Type 0
@@ -290,20 +290,20 @@ closes-maybe Open number queue old new h = inl h
 closes-maybe Closing number (byte ∷ queue) old new h = inl h
 closes-maybe Closing number [] old new h = inr h
 
-pub closes_back : (script : List Event) → GoesBack Closes (PlaysKept script)
-closes_back script link old later p h =
+pub closes_back : (first : World) (script : List Event) → GoesBack Closes (PlaysKept first script)
+closes_back first script link old later p h =
     elim (closes-maybe link.standing link.number link.queue.items old (Some later) h) [
       | inl same ↦ (later, sym same, p)
       | inr grows ↦ let g = grows_back (λ (b l : List PortCall). l ≡ Close link.number ∷ b) old later grows in
-          (g.0, g.1, kept-before script link.number g.0 (subst (PlaysKept script) g.2 p))
+          (g.0, g.1, kept-before first script link.number g.0 (subst (PlaysKept first script) g.2 p))
     ]
 
-pub told_close : (script : List Event) (link : Link) (before later : List PortCall) → Told Closes (PlaysKept script) link before later → IsOn script before
-    → ClosesOn script before later
-told_close script link before later t on =
+pub told_close : (first : World) (script : List Event) (link : Link) (before later : List PortCall) → Told Closes (PlaysKept first script) link before later → IsOn first script before
+    → ClosesOn first script before later
+told_close first script link before later t on =
     elim (closes-maybe link.standing link.number link.queue.items (Some before) (Some later) t.step) [
-      | inl same ↦ subst (ClosesOn script before) (sym (same_Some later before same)) (closes_none script before on)
-      | inr one ↦ subst (ClosesOn script before) (sym one) (closes_one script link.number before (subst (PlaysKept script) one t.holds) on)
+      | inl same ↦ subst (ClosesOn first script before) (sym (same_Some later before same)) (closes_none first script before on)
+      | inr one ↦ subst (ClosesOn first script before) (sym one) (closes_one first script link.number before (subst (PlaysKept first script) one t.holds) on)
     ]
 
 -- A link that isn't open and has nothing to send is closed.
@@ -313,9 +313,9 @@ closes-empty Open number queue before later shut none h = absurd (cc)
 closes-empty Closing number [] before later shut none h = h
 closes-empty Closing number (byte ∷ queue) before later shut none h = absurd (cc)
 
-pub told_closed : (script : List Event) (link : Link) (before later : List PortCall) → Told Closes (PlaysKept script) link before later
+pub told_closed : (first : World) (script : List Event) (link : Link) (before later : List PortCall) → Told Closes (PlaysKept first script) link before later
     → is_open link.standing ≡ false → link.queue.items ≡ [] → is_closed later link.number ≡ true
-told_closed script link before later t shut none =
+told_closed first script link before later t shut none =
     rw (closes-empty link.standing link.number link.queue.items before later shut none t.step) (rw (itself link.number) refl)
 
 -- Reads
@@ -326,14 +326,14 @@ begins number [] = false
 begins number (event ∷ later) = is_of number event
 
 -- What a call that takes an event leaves, where this tells whether it is its turn.
-pub record TakesNext (script : List Event) (turn : Bool) (before later : List PortCall) : Type 0 where
-  pub on : IsOn script later
+pub record TakesNext (first : World) (script : List Event) (turn : Bool) (before later : List PortCall) : Type 0 where
+  pub on : IsOn first script later
   pub shorter : length (left_in script later) ≤ length (left_in script before)
   pub same : turn ≡ false → left_in script later ≡ left_in script before
   pub takes : turn ≡ true → length (left_in script later) < length (left_in script before)
 
-takes_none : (script : List Event) (before : List PortCall) → IsOn script before → TakesNext script false before before
-takes_none script before on = record { on = on; shorter = omega arith; same = λ h. refl; takes = λ h. absurd (cc) }
+takes_none : (first : World) (script : List Event) (before : List PortCall) → IsOn first script before → TakesNext first script false before before
+takes_none first script before on = record { on = on; shorter = omega arith; same = λ h. refl; takes = λ h. absurd (cc) }
 
 read_played : (script : List Event) (number : ℕ) (answer : ReadAnswer) (reading : ℕ) (before : List PortCall)
     → Plays script (clocked answer reading (Read number read_room answer ∷ before)) → Plays script (Read number read_room answer ∷ before)
@@ -358,20 +358,20 @@ asks_back script link old later p h =
 
 -- What calls leave that take the next event of a script, or none.
 
-takes_event : (script : List Event) (before later : List PortCall) (event : Event) (rest : List Event) → left_in script before ≡ event ∷ rest → left_in script later ≡ rest
-    → events later ≡ port_event ((after first_world before).last + 1) event ∷ events before → is_closed later ≡ is_closed before
-    → IsOn script before → TakesNext script true before later
-takes_event script before later event rest e left are closed on = record {
-  on = on_next script before later event rest e left are closed on;
+takes_event : (first : World) (script : List Event) (before later : List PortCall) (event : Event) (rest : List Event) → left_in script before ≡ event ∷ rest → left_in script later ≡ rest
+    → events later ≡ port_event ((after first before).last + 1) event ∷ events before → is_closed later ≡ is_closed before
+    → IsOn first script before → TakesNext first script true before later
+takes_event first script before later event rest e left are closed on = record {
+  on = on_next first script before later event rest e left are closed on;
   shorter = omega (arith, ap (λ (l : List Event). length l) left, ap (λ (l : List Event). length l) e);
   same = λ h. absurd (true≢false h);
   takes = λ h. omega (arith, ap (λ (l : List Event). length l) left, ap (λ (l : List Event). length l) e);
 }
 
-takes_nothing : (script : List Event) (before later : List PortCall) → left_in script later ≡ left_in script before → events later ≡ events before → is_closed later ≡ is_closed before
-    → IsOn script before → TakesNext script false before later
-takes_nothing script before later left are closed on = record {
-  on = on_same script before later left are closed on;
+takes_nothing : (first : World) (script : List Event) (before later : List PortCall) → left_in script later ≡ left_in script before → events later ≡ events before → is_closed later ≡ is_closed before
+    → IsOn first script before → TakesNext first script false before later
+takes_nothing first script before later left are closed on = record {
+  on = on_same first script before later left are closed on;
   shorter = omega (arith, ap (λ (l : List Event). length l) left);
   same = λ h. left;
   takes = λ h. absurd (true≢false (sym h));
@@ -392,79 +392,79 @@ read-none : (p : Playing) (number room : ℕ) (left : List Event) → begins num
 read-none p number room [] h = (refl, refl)
 read-none p number room (event ∷ later) h = rw h (refl, refl)
 
-told_quiet : (script : List Event) (number : ℕ) (answer : ReadAnswer) (reading : ℕ) (before : List PortCall)
-    → Plays script (clocked answer reading (Read number read_room answer ∷ before)) → IsOn script before → begins number (left_in script before) ≡ false
-    → TakesNext script false before (clocked answer reading (Read number read_room answer ∷ before))
-told_quiet script number answer reading before p on h =
+told_quiet : (first : World) (script : List Event) (number : ℕ) (answer : ReadAnswer) (reading : ℕ) (before : List PortCall)
+    → Plays script (clocked answer reading (Read number read_room answer ∷ before)) → IsOn first script before → begins number (left_in script before) ≡ false
+    → TakesNext first script false before (clocked answer reading (Read number read_room answer ∷ before))
+told_quiet first script number answer reading before p on h =
     let nothing = read-none (playing (plan_of script) before) number read_room (left_in script before) h in
     let answered : answer ≡ Quiet = (read_played script number answer reading before p).0 ∙ nothing.1 in
-    subst (λ (a : ReadAnswer). TakesNext script false before (clocked a reading (Read number read_room a ∷ before))) (sym answered)
-    (takes_nothing script before (Read number read_room Quiet ∷ before) (ap (λ (q : Playing). q.left) nothing.0) refl refl on)
+    subst (λ (a : ReadAnswer). TakesNext first script false before (clocked a reading (Read number read_room a ∷ before))) (sym answered)
+    (takes_nothing first script before (Read number read_room Quiet ∷ before) (ap (λ (q : Playing). q.left) nothing.0) refl refl on)
 
-told_piece : (script : List Event) (number : ℕ) (answer : ReadAnswer) (reading : ℕ) (bytes : List ℕ) (at : ℕ) (later : List Event) (before : List PortCall)
-    → Plays script (clocked answer reading (Read number read_room answer ∷ before)) → IsOn script before → left_in script before ≡ Piece number bytes at ∷ later
-    → TakesNext script true before (clocked answer reading (Read number read_room answer ∷ before))
-told_piece script number answer reading bytes at later before p on e =
-    let next : AreNext (is_closed before) (after first_world before).last (Piece number bytes at ∷ later) = subst (AreNext (is_closed before) (after first_world before).last) e on.next in
+told_piece : (first : World) (script : List Event) (number : ℕ) (answer : ReadAnswer) (reading : ℕ) (bytes : List ℕ) (at : ℕ) (later : List Event) (before : List PortCall)
+    → Plays script (clocked answer reading (Read number read_room answer ∷ before)) → IsOn first script before → left_in script before ≡ Piece number bytes at ∷ later
+    → TakesNext first script true before (clocked answer reading (Read number read_room answer ∷ before))
+told_piece first script number answer reading bytes at later before p on e =
+    let next : AreNext (is_closed before) (after first before).last (Piece number bytes at ∷ later) = subst (AreNext (is_closed before) (after first before).last) e on.next in
     let read = read-left (playing (plan_of script) before) number read_room (Piece number bytes at) later (left_in script before) (itself number) (fits-whole read_room number bytes at next.0.1) e in
     let answered : answer ≡ Gave bytes = (read_played script number answer reading before p).0 ∙ read.1 ∙ ap (λ (b : List ℕ). Gave b) (take_all read_room bytes next.0.1) in
     let played : Plays script (Now reading ∷ Read number read_room (Gave bytes) ∷ before) =
     subst (λ (a : ReadAnswer). Plays script (clocked a reading (Read number read_room a ∷ before))) answered p in
     let its : reading ≡ at = played.0 ∙ read.2 in
-    subst (λ (a : ReadAnswer). TakesNext script true before (clocked a reading (Read number read_room a ∷ before))) (sym answered)
-    (takes_event script before (Now reading ∷ Read number read_room (Gave bytes) ∷ before) (Piece number bytes at) later e read.0
+    subst (λ (a : ReadAnswer). TakesNext first script true before (clocked a reading (Read number read_room a ∷ before))) (sym answered)
+    (takes_event first script before (Now reading ∷ Read number read_room (Gave bytes) ∷ before) (Piece number bytes at) later e read.0
     (ap (λ (r : ℕ). CamePiece number bytes (moment r) ∷ events before) its) refl on)
 
-told_end : (script : List Event) (number : ℕ) (answer : ReadAnswer) (reading : ℕ) (later : List Event) (before : List PortCall)
-    → Plays script (clocked answer reading (Read number read_room answer ∷ before)) → IsOn script before → left_in script before ≡ Ends number ∷ later
-    → TakesNext script true before (clocked answer reading (Read number read_room answer ∷ before))
-told_end script number answer reading later before p on e =
+told_end : (first : World) (script : List Event) (number : ℕ) (answer : ReadAnswer) (reading : ℕ) (later : List Event) (before : List PortCall)
+    → Plays script (clocked answer reading (Read number read_room answer ∷ before)) → IsOn first script before → left_in script before ≡ Ends number ∷ later
+    → TakesNext first script true before (clocked answer reading (Read number read_room answer ∷ before))
+told_end first script number answer reading later before p on e =
     let read = read-left (playing (plan_of script) before) number read_room (Ends number) later (left_in script before) (itself number) refl e in
     let answered : answer ≡ HasEnded = (read_played script number answer reading before p).0 ∙ read.1 in
-    subst (λ (a : ReadAnswer). TakesNext script true before (clocked a reading (Read number read_room a ∷ before))) (sym answered)
-    (takes_event script before (Read number read_room HasEnded ∷ before) (Ends number) later e read.0 refl refl on)
+    subst (λ (a : ReadAnswer). TakesNext first script true before (clocked a reading (Read number read_room a ∷ before))) (sym answered)
+    (takes_event first script before (Read number read_room HasEnded ∷ before) (Ends number) later e read.0 refl refl on)
 
-told_loss : (script : List Event) (number : ℕ) (answer : ReadAnswer) (reading : ℕ) (later : List Event) (before : List PortCall)
-    → Plays script (clocked answer reading (Read number read_room answer ∷ before)) → IsOn script before → left_in script before ≡ Loses number ∷ later
-    → TakesNext script true before (clocked answer reading (Read number read_room answer ∷ before))
-told_loss script number answer reading later before p on e =
+told_loss : (first : World) (script : List Event) (number : ℕ) (answer : ReadAnswer) (reading : ℕ) (later : List Event) (before : List PortCall)
+    → Plays script (clocked answer reading (Read number read_room answer ∷ before)) → IsOn first script before → left_in script before ≡ Loses number ∷ later
+    → TakesNext first script true before (clocked answer reading (Read number read_room answer ∷ before))
+told_loss first script number answer reading later before p on e =
     let read = read-left (playing (plan_of script) before) number read_room (Loses number) later (left_in script before) (itself number) refl e in
     let answered : answer ≡ WasLost = (read_played script number answer reading before p).0 ∙ read.1 in
-    subst (λ (a : ReadAnswer). TakesNext script true before (clocked a reading (Read number read_room a ∷ before))) (sym answered)
-    (takes_event script before (Read number read_room WasLost ∷ before) (Loses number) later e read.0 refl refl on)
+    subst (λ (a : ReadAnswer). TakesNext first script true before (clocked a reading (Read number read_room a ∷ before))) (sym answered)
+    (takes_event first script before (Read number read_room WasLost ∷ before) (Loses number) later e read.0 refl refl on)
 
-told_next : (script : List Event) (number : ℕ) (answer : ReadAnswer) (reading : ℕ) (before : List PortCall)
-    → Plays script (clocked answer reading (Read number read_room answer ∷ before)) → IsOn script before
+told_next : (first : World) (script : List Event) (number : ℕ) (answer : ReadAnswer) (reading : ℕ) (before : List PortCall)
+    → Plays script (clocked answer reading (Read number read_room answer ∷ before)) → IsOn first script before
     → (left : List Event) → left_in script before ≡ left → (turn : Bool) → begins number left ≡ turn
-    → TakesNext script turn before (clocked answer reading (Read number read_room answer ∷ before))
-told_next script number answer reading before p on left e false h =
-    told_quiet script number answer reading before p on (subst (λ (l : List Event). begins number l ≡ false) (sym e) h)
-told_next script number answer reading before p on [] e true h = absurd (cc)
-told_next script number answer reading before p on (Opens kind ∷ later) e true h = absurd (cc)
-told_next script number answer reading before p on (Piece who bytes at ∷ later) e true h =
+    → TakesNext first script turn before (clocked answer reading (Read number read_room answer ∷ before))
+told_next first script number answer reading before p on left e false h =
+    told_quiet first script number answer reading before p on (subst (λ (l : List Event). begins number l ≡ false) (sym e) h)
+told_next first script number answer reading before p on [] e true h = absurd (cc)
+told_next first script number answer reading before p on (Opens kind ∷ later) e true h = absurd (cc)
+told_next first script number answer reading before p on (Piece who bytes at ∷ later) e true h =
     let own : who ≡ number = grind (arith, nat_tests, h) in
-    told_piece script number answer reading bytes at later before p on (e ∙ ap (λ (n : ℕ). Piece n bytes at ∷ later) own)
-told_next script number answer reading before p on (Ends who ∷ later) e true h =
+    told_piece first script number answer reading bytes at later before p on (e ∙ ap (λ (n : ℕ). Piece n bytes at ∷ later) own)
+told_next first script number answer reading before p on (Ends who ∷ later) e true h =
     let own : who ≡ number = grind (arith, nat_tests, h) in
-    told_end script number answer reading later before p on (e ∙ ap (λ (n : ℕ). Ends n ∷ later) own)
-told_next script number answer reading before p on (Loses who ∷ later) e true h =
+    told_end first script number answer reading later before p on (e ∙ ap (λ (n : ℕ). Ends n ∷ later) own)
+told_next first script number answer reading before p on (Loses who ∷ later) e true h =
     let own : who ≡ number = grind (arith, nat_tests, h) in
-    told_loss script number answer reading later before p on (e ∙ ap (λ (n : ℕ). Loses n ∷ later) own)
+    told_loss first script number answer reading later before p on (e ∙ ap (λ (n : ℕ). Loses n ∷ later) own)
 
 -- A link that is asked takes the next event, if it is its own.
-told_read : (script : List Event) (number : ℕ) (before later : List PortCall) → ReadsOnce number before later → Plays script later → IsOn script before
-    → TakesNext script (begins number (left_in script before)) before later
-told_read script number before later h p on =
-    subst (TakesNext script (begins number (left_in script before)) before) (sym h.2)
-    (told_next script number h.0 h.1 before (subst (Plays script) h.2 p) on (left_in script before) refl (begins number (left_in script before)) refl)
+told_read : (first : World) (script : List Event) (number : ℕ) (before later : List PortCall) → ReadsOnce number before later → Plays script later → IsOn first script before
+    → TakesNext first script (begins number (left_in script before)) before later
+told_read first script number before later h p on =
+    subst (TakesNext first script (begins number (left_in script before)) before) (sym h.2)
+    (told_next first script number h.0 h.1 before (subst (Plays script) h.2 p) on (left_in script before) refl (begins number (left_in script before)) refl)
 
 -- A link that isn't asked takes nothing, and one that is takes the next event, if it is its own.
-pub told_ask : (script : List Event) (link : Link) (before later : List PortCall) → Told Asks (Plays script) link before later → IsOn script before
-    → TakesNext script false before later ⊎ TakesNext script (begins link.number (left_in script before)) before later
-told_ask script link before later t on =
+pub told_ask : (first : World) (script : List Event) (link : Link) (before later : List PortCall) → Told Asks (Plays script) link before later → IsOn first script before
+    → TakesNext first script false before later ⊎ TakesNext first script (begins link.number (left_in script before)) before later
+told_ask first script link before later t on =
     elim (reads-maybe link.standing link.number link.queue.items (Some before) (Some later) t.step) [
-      | inl same ↦ inl (subst (TakesNext script false before) (sym (same_Some later before same)) (takes_none script before on))
-      | inr reads ↦ inr (told_read script link.number before later reads t.holds on)
+      | inl same ↦ inl (subst (TakesNext first script false before) (sym (same_Some later before same)) (takes_none first script before on))
+      | inr reads ↦ inr (told_read first script link.number before later reads t.holds on)
     ]
 
 asks-open : (standing : Standing) (number : ℕ) (queue : List ℕ) (before later : List PortCall) → is_open standing ≡ true → queue ≡ []
@@ -474,10 +474,10 @@ asks-open Open number (byte ∷ queue) before later opened none h = absurd (cc)
 asks-open Closing number queue before later opened none h = absurd (cc)
 
 -- A link that is open and has nothing to send takes the next event, if it is its own.
-pub told_idle : (script : List Event) (link : Link) (before later : List PortCall) → Told Asks (Plays script) link before later → IsOn script before
-    → is_open link.standing ≡ true → link.queue.items ≡ [] → TakesNext script (begins link.number (left_in script before)) before later
-told_idle script link before later t on opened none =
-    told_read script link.number before later (asks-open link.standing link.number link.queue.items before later opened none t.step) t.holds on
+pub told_idle : (first : World) (script : List Event) (link : Link) (before later : List PortCall) → Told Asks (Plays script) link before later → IsOn first script before
+    → is_open link.standing ≡ true → link.queue.items ≡ [] → TakesNext first script (begins link.number (left_in script before)) before later
+told_idle first script link before later t on opened none =
+    told_read first script link.number before later (asks-open link.standing link.number link.queue.items before later opened none t.step) t.holds on
 
 -- Accepts
 
@@ -504,52 +504,52 @@ accept-quiet (Piece number bytes at ∷ later) h = (refl, refl)
 accept-quiet (Ends number ∷ later) h = (refl, refl)
 accept-quiet (Loses number ∷ later) h = (refl, refl)
 
-accepts_none : (script : List Event) (number : ℕ) (answer : Result (Option Kind) ListenFault) (before : List PortCall) → Plays script (Accept number answer ∷ before) → IsOn script before
-    → begins_open (left_in script before) ≡ false → TakesNext script false before (Accept number answer ∷ before)
-accepts_none script number answer before p on h =
+accepts_none : (first : World) (script : List Event) (number : ℕ) (answer : Result (Option Kind) ListenFault) (before : List PortCall) → Plays script (Accept number answer ∷ before) → IsOn first script before
+    → begins_open (left_in script before) ≡ false → TakesNext first script false before (Accept number answer ∷ before)
+accepts_none first script number answer before p on h =
     let nothing = accept-quiet (left_in script before) h in
     let answered : answer ≡ Ok None = p.0 ∙ ap (λ (found : Option Kind). Ok found) nothing.0 in
-    subst (λ (a : Result (Option Kind) ListenFault). TakesNext script false before (Accept number a ∷ before)) (sym answered)
-    (takes_nothing script before (Accept number (Ok None) ∷ before) nothing.1 refl refl on)
+    subst (λ (a : Result (Option Kind) ListenFault). TakesNext first script false before (Accept number a ∷ before)) (sym answered)
+    (takes_nothing first script before (Accept number (Ok None) ∷ before) nothing.1 refl refl on)
 
-accepts_some : (script : List Event) (number : ℕ) (answer : Result (Option Kind) ListenFault) (kind : Kind) (later : List Event) (before : List PortCall)
-    → Plays script (Accept number answer ∷ before) → IsOn script before
-    → left_in script before ≡ Opens kind ∷ later → number ≡ (after first_world before).last + 1
-    → TakesNext script true before (Accept number answer ∷ before)
-accepts_some script number answer kind later before p on e its =
+accepts_some : (first : World) (script : List Event) (number : ℕ) (answer : Result (Option Kind) ListenFault) (kind : Kind) (later : List Event) (before : List PortCall)
+    → Plays script (Accept number answer ∷ before) → IsOn first script before
+    → left_in script before ≡ Opens kind ∷ later → number ≡ (after first before).last + 1
+    → TakesNext first script true before (Accept number answer ∷ before)
+accepts_some first script number answer kind later before p on e its =
     let answered : answer ≡ Ok (Some kind) = p.0 ∙ ap (λ (l : List Event). Ok (answer_to_accept l)) e in
-    subst (λ (a : Result (Option Kind) ListenFault). TakesNext script true before (Accept number a ∷ before)) (sym answered)
-    (takes_event script before (Accept number (Ok (Some kind)) ∷ before) (Opens kind) later e (ap (λ (l : List Event). after_accept l) e)
+    subst (λ (a : Result (Option Kind) ListenFault). TakesNext first script true before (Accept number a ∷ before)) (sym answered)
+    (takes_event first script before (Accept number (Ok (Some kind)) ∷ before) (Opens kind) later e (ap (λ (l : List Event). after_accept l) e)
     (ap (λ (n : ℕ). Opened n kind ∷ events before) its) refl on)
 
-accept-answered : (script : List Event) (number : ℕ) (answer : Result (Option Kind) ListenFault) (before : List PortCall) → Plays script (Accept number answer ∷ before) → IsOn script before
-    → number ≡ (after first_world before).last + 1 → (left : List Event) → left_in script before ≡ left
-    → TakesNext script (begins_open left) before (Accept number answer ∷ before)
-accept-answered script number answer before p on its [] e = accepts_none script number answer before p on (ap begins_open e)
-accept-answered script number answer before p on its (Opens kind ∷ later) e = accepts_some script number answer kind later before p on e its
-accept-answered script number answer before p on its (Piece who bytes at ∷ later) e = accepts_none script number answer before p on (ap begins_open e)
-accept-answered script number answer before p on its (Ends who ∷ later) e = accepts_none script number answer before p on (ap begins_open e)
-accept-answered script number answer before p on its (Loses who ∷ later) e = accepts_none script number answer before p on (ap begins_open e)
+accept-answered : (first : World) (script : List Event) (number : ℕ) (answer : Result (Option Kind) ListenFault) (before : List PortCall) → Plays script (Accept number answer ∷ before) → IsOn first script before
+    → number ≡ (after first before).last + 1 → (left : List Event) → left_in script before ≡ left
+    → TakesNext first script (begins_open left) before (Accept number answer ∷ before)
+accept-answered first script number answer before p on its [] e = accepts_none first script number answer before p on (ap begins_open e)
+accept-answered first script number answer before p on its (Opens kind ∷ later) e = accepts_some first script number answer kind later before p on e its
+accept-answered first script number answer before p on its (Piece who bytes at ∷ later) e = accepts_none first script number answer before p on (ap begins_open e)
+accept-answered first script number answer before p on its (Ends who ∷ later) e = accepts_none first script number answer before p on (ap begins_open e)
+accept-answered first script number answer before p on its (Loses who ∷ later) e = accepts_none first script number answer before p on (ap begins_open e)
 
-accept-full : (script : List Event) (before : List PortCall) → IsOn script before → (script_machine script).last ≤ (after first_world before).last
-    → (left : List Event) → left_in script before ≡ left → TakesNext script (begins_open left) before before
-accept-full script before on full [] e = takes_none script before on
-accept-full script before on full (Opens kind ∷ later) e =
-    let room = numbers-last kind later (is_closed before) (λ n. has_loss n script) (λ n. is_lost n (events before)) (after first_world before) (script_machine script)
-    (subst (λ (l : List Event). Leads l (is_closed before) (λ n. has_loss n script) (λ n. is_lost n (events before)) (after first_world before) (script_machine script)) e on) in
+accept-full : (first : World) (script : List Event) (before : List PortCall) → IsOn first script before → (script_machine first script).last ≤ (after first before).last
+    → (left : List Event) → left_in script before ≡ left → TakesNext first script (begins_open left) before before
+accept-full first script before on full [] e = takes_none first script before on
+accept-full first script before on full (Opens kind ∷ later) e =
+    let room = numbers-last kind later (is_closed before) (λ n. has_loss n script) (λ n. is_lost n (events before)) (after first before) (script_machine first script)
+    (subst (λ (l : List Event). Leads l (is_closed before) (λ n. has_loss n script) (λ n. is_lost n (events before)) (after first before) (script_machine first script)) e on) in
     absurd (omega (arith, room, full))
-accept-full script before on full (Piece who bytes at ∷ later) e = takes_none script before on
-accept-full script before on full (Ends who ∷ later) e = takes_none script before on
-accept-full script before on full (Loses who ∷ later) e = takes_none script before on
+accept-full first script before on full (Piece who bytes at ∷ later) e = takes_none first script before on
+accept-full first script before on full (Ends who ∷ later) e = takes_none first script before on
+accept-full first script before on full (Loses who ∷ later) e = takes_none first script before on
 
 -- An accept takes the next event, if it opens a session.
-pub told_accept : (script : List Event) (full : Bool) (limit last : ℕ) (before later : List PortCall) → nat_eq last limit ≡ full → (script_machine script).last ≤ limit
-    → AcceptsBelow full last (Some before) (Some later) → last ≡ (after first_world before).last → Plays script later → IsOn script before
-    → TakesNext script (begins_open (left_in script before)) before later
-told_accept script true limit last before later test numbers h latest p on =
+pub told_accept : (first : World) (script : List Event) (full : Bool) (limit last : ℕ) (before later : List PortCall) → nat_eq last limit ≡ full → (script_machine first script).last ≤ limit
+    → AcceptsBelow full last (Some before) (Some later) → last ≡ (after first before).last → Plays script later → IsOn first script before
+    → TakesNext first script (begins_open (left_in script before)) before later
+told_accept first script true limit last before later test numbers h latest p on =
     let at_limit : last ≡ limit = grind (arith, nat_tests, test) in
-    subst (TakesNext script (begins_open (left_in script before)) before) (sym (same_Some later before h))
-    (accept-full script before on (omega arith) (left_in script before) refl)
-told_accept script false limit last before later test numbers h latest p on =
-    subst (TakesNext script (begins_open (left_in script before)) before) (sym h.1)
-    (accept-answered script (last + 1) h.0 before (subst (Plays script) h.1 p) on (ap (λ (n : ℕ). n + 1) latest) (left_in script before) refl)
+    subst (TakesNext first script (begins_open (left_in script before)) before) (sym (same_Some later before h))
+    (accept-full first script before on (omega arith) (left_in script before) refl)
+told_accept first script false limit last before later test numbers h latest p on =
+    subst (TakesNext first script (begins_open (left_in script before)) before) (sym h.1)
+    (accept-answered first script (last + 1) h.0 before (subst (Plays script) h.1 p) on (ap (λ (n : ℕ). n + 1) latest) (left_in script before) refl)

@@ -5,9 +5,9 @@ use Rattle.port_model.specs.declared.events.Event.TheVariants.{Opens, Piece, End
 use Rattle.port_model.specs.declared.calls.PortCall.{PortCall}
 use Rattle.port_model.specs.History.{events, sent, is_closed}
 use Rattle.port_model.specs.ScriptPorts.{Scripted}
+use Rattle.mail_model.specs.Step.{World}
 use Rattle.mail_model.specs.Machine.{Machine, Session, take_event, after}
 use Rattle.mail_rounds.specs.Held.{Held}
-use Rattle.mail_server.specs.Script.{first_world}
 use Rattle.mail_server.specs.Script.{script_machine, port_event, and_opened}
 use Rattle.mail_server.specs.Rounds.{plan_of, left_in, played_by, script_history, reached_by, has_loss}
 use Rattle.mail_rounds.specs.Serves.{Serves, is_lost}
@@ -54,22 +54,22 @@ pub record Leads (left : List Event) (closed may lost : ℕ → Bool) (before go
   pub losses : MayLose may lost left
 
 -- After a history what is left of a script leads to where the whole script does.
-abbrev pub IsOn : List Event → List PortCall → Type 0
-IsOn script calls =
-    Leads (left_in script calls) (is_closed calls) (λ number. has_loss number script) (λ number. is_lost number (events calls)) (after first_world calls) (script_machine script)
+abbrev pub IsOn : World → List Event → List PortCall → Type 0
+IsOn first script calls =
+    Leads (left_in script calls) (is_closed calls) (λ number. has_loss number script) (λ number. is_lost number (events calls)) (after first calls) (script_machine first script)
 
 -- The rounds that are to come lead from what was sent so far to what whole rounds reach, and from the calls so far to theirs.
-pub record IsSent (script : List Event) (calls : List PortCall) : Type 0 where
+pub record IsSent (first : World) (script : List Event) (calls : List PortCall) : Type 0 where
   pub turns : ℕ
   pub enough : length (left_in script calls) ≤ turns
-  pub leads : reached_by turns script calls (sent calls) ≡ reached_by (length script) script [] (λ number. [])
-  pub plays : played_by turns script calls ≡ script_history script
+  pub leads : reached_by first turns script calls (sent calls) ≡ reached_by first (length script) script [] (λ number. [])
+  pub plays : played_by first turns script calls ≡ script_history first script
 
 -- The ports recorded all calls, and the server holds what the machine has after them, in the middle of a script.
-pub record IsOnScript (events : List Event) (ports : Scripted) (held : Held) : Type 0 where
+pub record IsOnScript (first : World) (events : List Event) (ports : Scripted) (held : Held) : Type 0 where
   pub told : ports.starved ≡ false
   pub plan : ports.plan ≡ plan_of events
-  pub serves : Serves first_world ports.calls held
-  pub leads : IsOn events ports.calls
-  pub sends : IsSent events ports.calls
-  pub numbers : (script_machine events).last < 2 ^ 32
+  pub serves : Serves first ports.calls held
+  pub leads : IsOn first events ports.calls
+  pub sends : IsSent first events ports.calls
+  pub numbers : (script_machine first events).last < 2 ^ 32

@@ -6,6 +6,7 @@ use Rattle.port_model.specs.declared.events.Event.{Event}
 use Rattle.port_model.specs.Script.{script_events}
 use Rattle.port_model.specs.Streams.{Reads as IsReading}
 use Rattle.port_model.specs.Transcript.{session_lines}
+use Rattle.mail_model.specs.Step.{World}
 use Rattle.mime_reader.specs.Wrapping.{mail}
 use Rattle.canon_writer.specs.Printing.{print}
 use Rattle.mail_server.specs.declared.answer.Answer.{Answer}
@@ -35,13 +36,17 @@ pub record End : Type 0 where
 
 -- The word `script`
 
+-- the world that a script begins with: that of a store without mail
+abbrev pub first_world : World
+first_world = record {}
+
 -- what the sessions from the first to the last were sent, as lines
 abbrev pub transcript_of : ℕ → (ℕ → List ℕ) → List ℕ
 transcript_of last out = flat_map (λ number. session_lines number (out number)) (range_with_len 1 last)
 
 -- what every session of a script is sent, one session after another
 abbrev pub transcript : List Event → List ℕ
-transcript script = transcript_of (script_machine script).last (script_sent script)
+transcript script = transcript_of (script_machine first_world script).last (script_sent first_world script)
 
 -- the line that says of a script which line is bad
 abbrev pub bad_line : ℕ → List ℕ
@@ -56,7 +61,7 @@ pub record IsPlayedOut (text : List ℕ) : Type 0 where
   pub events : List Event
   pub says : script_events text ≡ Ok events
   pub calls : List PortCall
-  pub plays : PlaysOut events calls
+  pub plays : PlaysOut first_world events calls
 
 -- The word `canon`
 

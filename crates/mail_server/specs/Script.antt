@@ -26,15 +26,11 @@ abbrev pub port_events : ℕ → List Event → List PortEvent
 port_events next [] = []
 port_events next (event ∷ later) = port_event next event ∷ port_events (and_opened next event) later
 
--- the world of a store without mail
-abbrev pub first_world : World
-first_world = record {}
-
 -- events that come after older ones, all with the newest first
 abbrev pub newest_first : List PortEvent → List PortEvent → List PortEvent
 newest_first older [] = older
 newest_first older (event ∷ later) = newest_first (event ∷ older) later
 
--- The machine after a script. What happens to a session that was closed changes nothing.
-abbrev pub script_machine : List Event → Machine
-script_machine events = machine first_world (newest_first [] (port_events 1 events))
+-- The machine after a script that begins with this world. What happens to a session that was closed changes nothing.
+abbrev pub script_machine : World → List Event → Machine
+script_machine first events = machine first (newest_first [] (port_events 1 events))

@@ -6,7 +6,7 @@ ghost use Rattle.port_model.specs.Script.{AreEvents};
 ghost use Rattle.mail_rounds.specs.Held.{held};
 ghost use Rattle.mail_server.specs.OnScript.{IsOnScript};
 ghost use Rattle.mail_server.specs.Rounds.{PlaysOut};
-ghost use Rattle.mail_server.specs.Script.{first_world};
+ghost use Rattle.mail_server.specs.Run.{first_world};
 ghost use Rattle.mail_server.specs.Script.{script_machine};
 ghost use Rattle.mail_rounds.specs.Serves.{Serves};
 
@@ -33,8 +33,8 @@ pub(crate) fn play<D>(
 ) -> (Result<Played, AllocError>, Files<D>)
     requires kept { AreEvents events.items }
     ensures recorded { IfOk result.0 (λ played. played.ports.starved ≡ false) }
-    ensures plays { IfOk result.0 (λ played. PlaysOut events.items played.ports.calls) }
-    ensures last { IfOk result.0 (λ played. played.last ≡ (script_machine events.items).last) }
+    ensures plays { IfOk result.0 (λ played. PlaysOut first_world events.items played.ports.calls) }
+    ensures last { IfOk result.0 (λ played. played.last ≡ (script_machine first_world events.items).last) }
     ensures files { result.1 ≡ files }
 {
     let mut server = match Server::load(alloc, files) {
@@ -58,8 +58,8 @@ fn play_on<D>(
     requires unspent { server.old.spent ≡ false }
     requires kept { AreEvents events.items }
     ensures recorded { IfOk result (λ played. played.ports.starved ≡ false) }
-    ensures plays { IfOk result (λ played. PlaysOut events.items played.ports.calls) }
-    ensures last { IfOk result (λ played. played.last ≡ (script_machine events.items).last) }
+    ensures plays { IfOk result (λ played. PlaysOut first_world events.items played.ports.calls) }
+    ensures last { IfOk result (λ played. played.last ≡ (script_machine first_world events.items).last) }
     ensures files { server.new.files ≡ server.old.files }
 {
     let mut ports = ScriptPorts::new(alloc, events, Vec::new(alloc))?;
@@ -77,8 +77,8 @@ fn play_on<D>(
 /// Runs rounds until no event is left.
 fn run_rounds<D>(server: &mut Server<D>, ports: &mut ScriptPorts) -> Result<(), AllocError>
     requires unspent { server.old.spent ≡ false }
-    requires on_script { IsOnScript ports.old.plan.events ports.old (held server.old) }
-    ensures on_script { OnOk result (IsOnScript ports.old.plan.events ports.new (held server.new)) }
+    requires on_script { IsOnScript first_world ports.old.plan.events ports.old (held server.old) }
+    ensures on_script { OnOk result (IsOnScript first_world ports.old.plan.events ports.new (held server.new)) }
     ensures done { OnOk result ((playing ports.new.plan ports.new.calls).left ≡ []) }
     ensures unspent { OnOk result (server.new.spent ≡ false) }
     ensures files { server.new.files ≡ server.old.files }

@@ -7,7 +7,7 @@ ghost use Rattle.port_model.specs.Script.{AreEvents};
 ghost use Rattle.mail_server.specs.declared.status.Status.TheVariants.{Done};
 ghost use Rattle.mail_server.specs.declared.words.Task.TheVariants.{Script};
 ghost use Rattle.mail_server.specs.Rounds.{PlaysOut};
-ghost use Rattle.mail_server.specs.Run.{End, IsAnswer, IsPlayedOut, end_of_events, end_of, transcript_of, bad_line};
+ghost use Rattle.mail_server.specs.Run.{End, IsAnswer, first_world, IsPlayedOut, end_of_events, end_of, transcript_of, bad_line};
 
 use crate::answer::{Answer, one_line};
 use crate::script::{Played, play};
@@ -48,7 +48,7 @@ fn answer_events<D>(
 ) -> (Result<Answer, AllocError>, Files<D>)
     requires kept { AreEvents events.items }
     ensures answers { IfOk result.0 (λ answer. IsAnswer answer.status answer.lines.items (end_of_events (Ok events.items))) }
-    ensures plays { IfOk result.0 (λ _. (calls : List PortCall) × PlaysOut events.items calls) }
+    ensures plays { IfOk result.0 (λ _. (calls : List PortCall) × PlaysOut first_world events.items calls) }
     ensures files { result.1 ≡ files }
 {
     let (played, files) = play(alloc, files, events);

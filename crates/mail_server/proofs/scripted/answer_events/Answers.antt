@@ -7,7 +7,7 @@ use Rattle.mail_server.specs.declared.answer.Answer.{Answer}
 use Rattle.mail_server.specs.declared.status.Status.TheVariants.{Done}
 use Rattle.port_model.specs.declared.calls.PortCall.{PortCall}
 use Rattle.mail_server.specs.Rounds.{script_sent, PlaysOut}
-use Rattle.mail_server.specs.Run.{IsAnswer, end_of_events, transcript_of, transcript}
+use Rattle.mail_server.specs.Run.{IsAnswer, first_world, end_of_events, transcript_of, transcript}
 use Rattle.mail_server.proofs.Readings.{transcript-same}
 use Rattle.mail_server.proofs.scripted.answer_events.Goals as goal
 use Rattle.mail_server.proofs.scripted.answer_events.Goals.{in-Ok, in-Err}
@@ -24,7 +24,7 @@ returns-clause-answers g c =
       | in-Ok w ↦
           let plays = rw w.in-Ok.is at c.play-played.ensures.plays in
           let last = rw w.in-Ok.is at c.play-played.ensures.last in
-          let all = script_sent c.args.events.items in
+          let all = script_sent first_world c.args.events.items in
           let same : transcript_of w.in-Ok.played.last (sent w.in-Ok.played.ports.calls) ≡ transcript c.args.events.items =
           transcript-same w.in-Ok.played.last (sent w.in-Ok.played.ports.calls) all plays.sends ∙ ap (λ (n : ℕ). transcript_of n all) last in
           subst Answers (sym w.answer-is) (printed c.args.events.items w.print_played-answer.result _ same w.print_played-answer.ensures.status w.print_played-answer.ensures.lines)
@@ -37,7 +37,7 @@ played (Err error) P fact = tt
 
 pub returns-clause-plays : goal.returns-clause-plays
 returns-clause-plays g c =
-    let Plays : Result Answer AllocError → Type 0 = λ result. IfOk result (λ _. (calls : List PortCall) × PlaysOut c.args.events.items calls) in
+    let Plays : Result Answer AllocError → Type 0 = λ result. IfOk result (λ _. (calls : List PortCall) × PlaysOut first_world c.args.events.items calls) in
     elim c.match-played.branch [
       | in-Ok w ↦
           let plays = rw w.in-Ok.is at c.play-played.ensures.plays in

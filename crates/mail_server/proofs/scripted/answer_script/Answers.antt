@@ -7,7 +7,7 @@ use Rattle.mail_server.specs.declared.answer.Answer.{Answer}
 use Rattle.mail_server.specs.declared.status.Status.TheVariants.{Done}
 use Rattle.mail_server.specs.declared.words.Task.TheVariants.{Script}
 use Rattle.mail_server.specs.Rounds.{PlaysOut}
-use Rattle.mail_server.specs.Run.{End, IsAnswer, IsPlayedOut, end_of_events}
+use Rattle.mail_server.specs.Run.{End, IsAnswer, first_world, IsPlayedOut, end_of_events}
 use Rattle.mail_server.proofs.Readings.{end-long, end-short}
 use Rattle.mail_server.proofs.scripted.answer_script.Goals as goal
 
@@ -33,7 +33,7 @@ not-done (Ok answer) end text other is = λ done. absurd (other (sym is.status_i
 not-done (Err error) end text other is = tt
 
 played : {E : Type 0} (result : Result Answer E) (text : List ℕ) (events : List Event) → script_events text ≡ Ok events
-    → IfOk result (λ _. (calls : List PortCall) × PlaysOut events calls) → IfOk result (λ answer. answer.status ≡ Done → IsPlayedOut text)
+    → IfOk result (λ _. (calls : List PortCall) × PlaysOut first_world events calls) → IfOk result (λ answer. answer.status ≡ Done → IsPlayedOut text)
 played (Ok answer) text events says plays = λ done. record { events = events; says = says; calls = plays.0; plays = plays.1 }
 played (Err error) text events says plays = tt
 
