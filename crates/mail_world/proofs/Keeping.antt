@@ -45,7 +45,7 @@ still_some : (f : Mailbox → Mailbox) (o : Option Mailbox) → IsSome o → IsS
 still_some f None some = some
 still_some f (Some m) some = refl
 
-mapped : {P : Type 0} (f : Mailbox → Mailbox) (o : Option Mailbox) (m : Mailbox) → option_map f o ≡ Some m → ((old : Mailbox) → o ≡ Some old → m ≡ f old → P) → P
+pub mapped : {P : Type 0} (f : Mailbox → Mailbox) (o : Option Mailbox) (m : Mailbox) → option_map f o ≡ Some m → ((old : Mailbox) → o ≡ Some old → m ≡ f old → P) → P
 mapped f None m found use_it = absurd (none-some m found)
 mapped f (Some old) m found use_it = use_it old refl (sym (same_Some (f old) m found))
 

@@ -15,3 +15,5 @@ pub mod Staying
 pub mod Coming
 pub mod Subscribing
 pub mod Moving
+pub mod Renamed
+pub mod Legality

@@ -43,7 +43,7 @@ pub record AreUsers (world : World) (users : List User) : Type 0 where
 pub users_stay : (world : World) → IsLegal world → AreUsers world world.users
 users_stay world legal = record { ids = legal.user_ids; names = legal.user_names; few = legal.few_users; stay = λ id there. there }
 
-next_above : (next : ℕ) → (next ≡ 0 → ⊥) → (next_id next ≢ 0) → next < next_id next
+pub next_above : (next : ℕ) → (next ≡ 0 → ⊥) → (next_id next ≢ 0) → next < next_id next
 next_above next some = cond_both (next == last_mailbox) 0 (next + 1) (λ later. (later ≢ 0) → next < later) (λ e more. absurd (more refl)) (λ e more. omega arith)
 
 next_few : (next : ℕ) → next ≤ last_mailbox → next_id next ≤ last_mailbox

@@ -66,12 +66,12 @@ moved-legal id to source legal =
     (omega arith)
     (omega (arith, next_of (map (λ entry. entry.message) source.entries) id source.head.owner to, length-map source.entries (λ entry. entry.message), count_by-le-length (λ entry. nat_lt entry.uid source.head.first_recent) source.entries))
 
-record IsRenamed (world : World) (owner : ℕ) (to : List ℕ) : Type 0 where
-  name : mailbox_named owner to world.mailboxes ≡ None
-  room : (count_by (is_owned_by owner) world.mailboxes < most_mailboxes) × ((world.next == 0) ≡ false)
-  modseqs : list_any (λ m. is_named owner inbox m && keeps_its_messages m) world.mailboxes ≡ false
+pub record IsRenamed (world : World) (owner : ℕ) (to : List ℕ) : Type 0 where
+  pub name : mailbox_named owner to world.mailboxes ≡ None
+  pub room : (count_by (is_owned_by owner) world.mailboxes < most_mailboxes) × ((world.next == 0) ≡ false)
+  pub modseqs : list_any (λ m. is_named owner inbox m && keeps_its_messages m) world.mailboxes ≡ false
 
-accepted_as : (world : World) (owner : ℕ) (to : List ℕ) → rename_inbox_refused world owner to ≡ None → IsRenamed world owner to
+pub accepted_as : (world : World) (owner : ℕ) (to : List ℕ) → rename_inbox_refused world owner to ≡ None → IsRenamed world owner to
 accepted_as world owner to accepted =
     let fifth = (list_any (λ m. is_named owner inbox m && keeps_its_messages m) world.mailboxes, Full) ∷ [] in
     let fourth = (is_full_of_mailboxes owner world, Full) ∷ fifth in

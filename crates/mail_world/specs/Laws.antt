@@ -1,7 +1,7 @@
 -- What users rely on, whatever changes are made.
-use Rattle.std.specs.Prelude.{◌≡◌, ℕ, ◌+◌, ◌<◌, ◌≤◌, ◌⊎◌, ◌==◌, ◌&&◌, Bool, true, false, List, Option, Some, None, IsSomeAnd}
+use Rattle.std.specs.Prelude.{◌≡◌, ◌≢◌, ℕ, ◌+◌, ◌<◌, ◌≤◌, ◌⊎◌, ◌==◌, ◌&&◌, Bool, true, false, List, Option, Some, None, IsSomeAnd}
 use Rattle.std.specs.List.{list_any}
-use Rattle.mail_world.specs.Worlds.{World, Mailbox, Entry, Gone, entry_at, gone_at, has_id, is_owned_by, is_among}
+use Rattle.mail_world.specs.Worlds.{World, Mailbox, Entry, Gone, mailbox_at, entry_at, gone_at, has_id, is_owned_by, is_among}
 use Rattle.mail_world.specs.Changes.{Change, AddUser, Create, Delete, Rename, Subscribe, Unsubscribe, Append, Deliver, Copy, StoreFlags, Expunge, TakeRecents}
 use Rattle.mail_world.specs.Users.{new_user_id}
 
@@ -73,3 +73,14 @@ touches world (Copy mailbox uids target taken) user = owns world user target
 touches world (StoreFlags mailbox uids how flags) user = owns world user mailbox
 touches world (Expunge mailbox uids) user = owns world user mailbox
 touches world (TakeRecents mailbox) user = owns world user mailbox
+
+-- an id that a mailbox was given
+pub record WasGiven (world : World) (id : ℕ) : Type 0 where
+  pub from_one : 1 ≤ id
+  pub below_next : (world.next ≢ 0) → id < world.next
+
+-- The id of a mailbox is its UIDVALIDITY, and no two mailboxes ever have one (RFC 3501 §2.3.1.1): an id that was given stays so, and
+-- once its mailbox is deleted, none has it again.
+pub record KeepsIds (before after : World) : Type 0 where
+  pub given : (id : ℕ) → WasGiven before id → WasGiven after id
+  pub once : (id : ℕ) → WasGiven before id → mailbox_at id before.mailboxes ≡ None → mailbox_at id after.mailboxes ≡ None
