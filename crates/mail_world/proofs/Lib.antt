@@ -17,3 +17,4 @@ pub mod Subscribing
 pub mod Moving
 pub mod Renamed
 pub mod Legality
+pub mod Ids

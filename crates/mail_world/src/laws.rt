@@ -5,7 +5,7 @@ ghost use Rattle.mail_world.specs.Worlds.{World, Mailbox, mailbox_at, no_world, 
 ghost use Rattle.mail_world.specs.Changes.{Change};
 ghost use Rattle.mail_world.specs.Applying.{apply, refused};
 ghost use Rattle.mail_world.specs.Legal.{IsLegal, IsProper};
-ghost use Rattle.mail_world.specs.Laws.{Follows, touches};
+ghost use Rattle.mail_world.specs.Laws.{Follows, KeepsIds, touches};
 
 use ordered_rows::laws::insertion;
 use row_tables::Subscription;
@@ -29,3 +29,8 @@ pub fn stores_stay_legal()
 {
     insertion::<Subscription>();
 }
+
+/// The id of a mailbox, its UIDVALIDITY, is given once, so a client never takes one mailbox for another.
+pub fn ids_are_given_once()
+    ensures { (world : World) (change : Change) → IsLegal world → refused world change ≡ None → KeepsIds world (apply world change) }
+{}

@@ -7,4 +7,4 @@
 
 mod laws;
 
-pub use laws::{mailboxes_follow, others_keep_their_own, stores_stay_legal};
+pub use laws::{ids_are_given_once, mailboxes_follow, others_keep_their_own, stores_stay_legal};
