@@ -1,28 +1,28 @@
 -- A change leaves the parts of all users but those whom it touches.
-use Rattle.std.proofs.Common.{ℕ, ◌≡◌, ◌<◌, ◌==◌, Bool, true, false, cond, not, List, [], ◌∷◌, ◌++◌, map, Option, Some, None, refl, sym, ap, ◌∙◌, ◌⊎◌, inl, inr, ⊎_elim, arith, append-nil}
-use Rattle.std.specs.Prelude.{◌&&◌, ◌||◌, nat_eq, nat_lt}
-use Rattle.std.specs.List.{find, filter, list_any}
+use Rattle.std.proofs.Common.{ℕ, ◌≡◌, ◌<◌, ◌==◌, Bool, true, false, cond, not, List, [], ◌∷◌, ◌++◌, map, Option, Some, None, refl, sym, ap, ◌∙◌, ◌⊎◌, inl, inr, arith, append-nil}
+use Rattle.std.specs.Prelude.{◌&&◌}
+use Rattle.std.specs.List.{filter, list_any}
 use Rattle.std.specs.Option.{option_or}
 use Rattle.std.specs.Ordering.{is_lt}
-use Rattle.std.proofs.lemmas.Bool.{true≢false, eqb-true, eqb-false, eq-eqb, ne_eqb, lt-ltb, le-ltb, cond_both, and_parts, and_left, and_right, or_parts, cases_order}
+use Rattle.std.proofs.lemmas.Bool.{true≢false, eqb-true, eqb-false, ne_eqb, lt-ltb, le-ltb, cond_both, and_parts, and_left, and_right, or_parts, cases_order}
 use Rattle.std.proofs.lemmas.List.Elements.{filter-append}
 use Rattle.std.proofs.lemmas.List.Folds.{find-append}
 use Rattle.ordered_rows.specs.RowKey.{key_cmp}
-use Rattle.ordered_rows.specs.Listed.{with_row, without, is_below, has_key}
+use Rattle.ordered_rows.specs.Listed.{with_row, is_below, has_key}
 use Rattle.row_tables.specs.Keys.{owned_key, subscription_key}
 use Rattle.row_tables.specs.declared.heads.User.{User}
 use Rattle.row_tables.specs.declared.heads.Subscription.{Subscription}
 use Rattle.mail_world.specs.Names.{inbox, is_inbox, mailbox_name, created_name, same_name, is_renamed}
 use Rattle.mail_world.specs.Flags.{distinct}
-use Rattle.mail_world.specs.Worlds.{World, Mailbox, Message, Own, own, user_at, mailbox_named, has_id, is_named, is_owned_by, is_among}
+use Rattle.mail_world.specs.Worlds.{World, Mailbox, Message, own, user_at, mailbox_named, has_id, is_named, is_owned_by, is_among}
 use Rattle.mail_world.specs.Changes.{Change, AddUser, Create, Delete, Rename, Subscribe, Unsubscribe, Append, Deliver, Copy, StoreFlags, Expunge, TakeRecents}
-use Rattle.mail_world.specs.Users.{new_user_id, new_mailbox, with_mailbox, created, deleted}
+use Rattle.mail_world.specs.Users.{new_user_id, new_mailbox}
 use Rattle.mail_world.specs.Subscriptions.{is_subscribed, subscribed, unsubscribed}
 use Rattle.mail_world.specs.Arrivals.{with_changed, with_messages, takes_mail, copied, has_no_room, has_no_uids}
 use Rattle.mail_world.specs.Storing.{with_stored, without_messages, without_recents}
 use Rattle.mail_world.specs.Renaming.{moves, new_name, with_name, renamed, inbox_renamed, with_inbox_moved, moved_inbox}
 use Rattle.mail_world.specs.Applying.{apply}
-use Rattle.mail_world.specs.Laws.{owns, touches}
+use Rattle.mail_world.specs.Laws.{touches}
 use Rattle.mail_world.proofs.Finding.{find_passes}
 use Rattle.mail_world.proofs.Following.{step, left_owner, stored_owner}
 

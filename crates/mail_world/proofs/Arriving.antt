@@ -1,13 +1,11 @@
 -- A mailbox into which messages came follows from what it was.
-use Rattle.std.proofs.Common.{ℕ, suc, ◌≡◌, ◌+◌, ◌<◌, ◌≤◌, ◌==◌, Bool, true, false, cond, List, [], ◌∷◌, ◌++◌, map, length, Option, Some, None, refl, sym, ap, subst, ◌∙◌, ◌⊎◌, inl, inr, ⊎_elim, arith}
-use Rattle.std.specs.Prelude.{IsSomeAnd, nat_eq}
-use Rattle.std.specs.List.{find}
-use Rattle.std.proofs.lemmas.Bool.{true≢false, false≢true, eqb-true, cond_both}
+use Rattle.std.proofs.Common.{ℕ, suc, ◌≡◌, ◌+◌, ◌<◌, ◌≤◌, ◌==◌, Bool, true, false, cond, List, [], ◌∷◌, length, Option, Some, refl, sym, ap, subst, ◌∙◌, inl, inr, ⊎_elim, arith}
+use Rattle.std.proofs.lemmas.Bool.{true≢false, false≢true, eqb-true}
 use Rattle.std.proofs.lemmas.Option.{none-some, same_Some}
-use Rattle.mail_world.specs.Worlds.{Mailbox, Entry, Gone, Message, entry_at, gone_at}
+use Rattle.mail_world.specs.Worlds.{Mailbox, Entry, Message, entry_at}
 use Rattle.mail_world.specs.Arrivals.{numbered, with_messages}
-use Rattle.mail_world.specs.Legal.{IsLegalMailbox, IsGiven}
-use Rattle.mail_world.specs.Laws.{IsSameMail, KeepsUids, RaisesModseqs, TellsOnce}
+use Rattle.mail_world.specs.Legal.{IsLegalMailbox}
+use Rattle.mail_world.specs.Laws.{KeepsUids, RaisesModseqs, TellsOnce}
 use Rattle.mail_world.proofs.Finding.{find_passes, find-append_cases, find-append_first}
 
 -- where an entry with numbers is found

@@ -1,26 +1,26 @@
 -- A store stays legal as mailboxes are made and deleted, and as users come.
-use Rattle.std.proofs.Common.{ℕ, zero, suc, ◌≡◌, ◌+◌, ◌<◌, ◌≤◌, ◌==◌, Bool, true, false, cond, not, List, [], ◌∷◌, ◌++◌, map, length, Option, Some, None, refl, sym, ap, subst, ◌∙◌, ◌⊎◌, inl, inr, ⊎_elim, arith, length-append}
-use Rattle.std.specs.Prelude.{◌&&◌, ◌||◌, nat_eq, nat_le, IsSome, count_by}
+use Rattle.std.proofs.Common.{ℕ, zero, suc, ◌≡◌, ◌+◌, ◌<◌, ◌≤◌, ◌==◌, Bool, true, false, cond, not, List, [], ◌∷◌, ◌++◌, length, Option, Some, None, refl, sym, ap, subst, ◌∙◌, ◌⊎◌, inl, inr, ⊎_elim, arith, length-append}
+use Rattle.std.specs.Prelude.{◌||◌, nat_eq, nat_le, IsSome, count_by}
 use Rattle.std.specs.List.{find, filter, AllByRecursion, range_with_len}
 use Rattle.std.specs.Option.{is_some, option_or}
 use Rattle.std.specs.Cmp.Lexicographic.{pointwise}
-use Rattle.std.proofs.lemmas.Bool.{true≢false, false≢true, cond_both, eqb-true, eqb-false, eq-eqb, ne_eqb, leb-false, and_parts, and_from, and_right, or_parts, not-true, not-false, not_from_false, not_from_true, cases_Bool}
+use Rattle.std.proofs.lemmas.Bool.{true≢false, false≢true, eqb-true, eq-eqb, ne_eqb, leb-false, and_parts, and_right, or_parts}
 use Rattle.std.proofs.lemmas.List.{map-append}
 use Rattle.std.proofs.lemmas.List.Folds.{find-append}
 use Rattle.std.proofs.lemmas.List.Sums.{length-filter}
 use Rattle.std.proofs.lemmas.Option.{none-some, same_Some}
 use Rattle.row_tables.specs.Names.{user_named, has_user_name}
 use Rattle.row_tables.specs.declared.heads.User.{User}
-use Rattle.mail_world.specs.Names.{inbox, is_inbox, same_name, is_mailbox_name, is_user_name}
-use Rattle.mail_world.specs.Worlds.{World, Mailbox, user_at, mailbox_at, mailbox_named, has_id, is_named, is_owned_by}
+use Rattle.mail_world.specs.Names.{inbox, is_inbox, is_mailbox_name, is_user_name}
+use Rattle.mail_world.specs.Worlds.{World, Mailbox, user_at, mailbox_named, has_id, is_named, is_owned_by}
 use Rattle.mail_world.specs.Limits.{most_users, most_mailboxes}
 use Rattle.mail_world.specs.Changes.{BadName, Absent, Exists, InUse, Full}
-use Rattle.mail_world.specs.Users.{new_mailbox, with_mailbox, create_refused, created, is_full_of_mailboxes, delete_refused, deleted, is_selected, add_user_refused, new_user_id, with_user}
-use Rattle.mail_world.specs.Legal.{IsLegal, IsLegalIn, IsLegalMailbox, Ascend}
-use Rattle.mail_world.proofs.Finding.{find_passes, find-append_cases, find-append_first, find-filter_same}
-use Rattle.mail_world.proofs.Ascending.{all-unmap, all_found, ascend-filter, listed, number_is, passes_all}
+use Rattle.mail_world.specs.Users.{new_mailbox, create_refused, created, is_full_of_mailboxes, delete_refused, deleted, is_selected, add_user_refused, new_user_id, with_user}
+use Rattle.mail_world.specs.Legal.{IsLegal}
+use Rattle.mail_world.proofs.Finding.{find-append_cases, find-append_first, find-filter_same}
+use Rattle.mail_world.proofs.Ascending.{all-unmap, all_found, ascend-filter, listed, passes_all}
 use Rattle.mail_world.proofs.Following.{found_in_all}
-use Rattle.mail_world.proofs.Making.{same_itself, found_at, AreUsers, users_stay, IsNew, made-legal, new-legal}
+use Rattle.mail_world.proofs.Making.{same_itself, AreUsers, users_stay, made-legal, new-legal}
 use Rattle.mail_world.proofs.Accepting.{not_refused}
 
 pub none_there : {X : Type 0} (o : Option X) → is_some o ≡ false → o ≡ None

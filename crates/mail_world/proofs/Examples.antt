@@ -1,19 +1,16 @@
 -- Worked examples: what changes make of small stores, and which are refused.
-use Rattle.std.specs.Prelude.{ℕ, ◌≡◌, ◌-◌, pos, Bool, true, false, List, [], ◌∷◌, ◌++◌, map, filter, fold, replicate, Option, Some, None, codes, refl}
+use Rattle.std.specs.Prelude.{ℕ, ◌≡◌, pos, true, false, List, [], ◌∷◌, ◌++◌, map, fold, replicate, Option, Some, None, codes, refl}
 use Rattle.std.specs.Option.{option_map}
-use Rattle.std.specs.Str.{byte}
 use Rattle.date_grammar.specs.declared.parts.Stamp.{Stamp}
-use Rattle.imap_grammar.specs.declared.flags.Flag.{Flag}
-use Rattle.imap_grammar.specs.declared.flags.Flag.TheVariants.{Deleted, Seen, Flagged, Keyword}
-use Rattle.imap_grammar.specs.declared.flags.FlagChange.TheVariants.{Set, Add, Remove}
+use Rattle.imap_grammar.specs.declared.flags.Flag.TheVariants.{Deleted, Seen, Keyword}
+use Rattle.imap_grammar.specs.declared.flags.FlagChange.TheVariants.{Add, Remove}
 use Rattle.mime_tree.specs.declared.reasons.Mail.{Mail}
 use Rattle.mime_tree.specs.declared.trees.Encoding.TheVariants.{Plain}
 use Rattle.mime_tree.specs.Trees.Tree.{node}
 use Rattle.mime_tree.specs.Trees.Content.{leaf}
-use Rattle.row_tables.specs.declared.heads.User.{User}
 use Rattle.mail_world.specs.Names.{is_mailbox_name, created_name, is_user_name}
 use Rattle.mail_world.specs.Flags.{distinct}
-use Rattle.mail_world.specs.Worlds.{World, Mailbox, Entry, Gone, no_world, mailbox_at, own}
+use Rattle.mail_world.specs.Worlds.{World, Mailbox, no_world, mailbox_at}
 use Rattle.mail_world.specs.Changes.{Change, AddUser, Create, Delete, Rename, Subscribe, Unsubscribe, Append, Deliver, Copy, StoreFlags, Expunge, TakeRecents, BadName, Absent, Exists, InUse, Full, NoUid}
 use Rattle.mail_world.specs.Applying.{apply, refused}
 

@@ -1,21 +1,21 @@
 -- Each change leaves mailboxes that follow from those before it.
-use Rattle.std.proofs.Common.{ℕ, ◌≡◌, ◌+◌, ◌<◌, ◌≤◌, ◌==◌, Bool, true, false, cond, not, List, [], ◌∷◌, ◌++◌, map, length, Option, Some, None, refl, sym, ap, subst, ◌∙◌, ◌⊎◌, inl, inr, ⊎_elim, arith}
-use Rattle.std.specs.Prelude.{◌&&◌, nat_eq}
-use Rattle.std.specs.List.{find, filter, AllByRecursion}
+use Rattle.std.proofs.Common.{ℕ, ◌≡◌, ◌<◌, ◌==◌, Bool, true, false, cond, not, List, [], ◌∷◌, ◌++◌, map, Option, Some, None, refl, sym, ap, subst, ◌∙◌, arith}
+use Rattle.std.specs.Prelude.{◌&&◌}
+use Rattle.std.specs.List.{filter, AllByRecursion}
 use Rattle.std.specs.Option.{option_map}
-use Rattle.std.proofs.lemmas.Bool.{true≢false, false≢true, eqb-true, cond_both, cases_Bool}
+use Rattle.std.proofs.lemmas.Bool.{eqb-true, cond_both}
 use Rattle.std.proofs.lemmas.Option.{none-some, same_Some}
-use Rattle.mail_world.specs.Names.{inbox, is_inbox, mailbox_name, created_name}
+use Rattle.mail_world.specs.Names.{inbox, is_inbox, mailbox_name}
 use Rattle.mail_world.specs.Flags.{distinct}
-use Rattle.mail_world.specs.Worlds.{World, Mailbox, Entry, Gone, Message, mailbox_at, mailbox_named, has_id, is_named, is_among}
+use Rattle.mail_world.specs.Worlds.{World, Mailbox, Message, mailbox_at, mailbox_named, has_id, is_named, is_among}
 use Rattle.mail_world.specs.Changes.{Change, AddUser, Create, Delete, Rename, Subscribe, Unsubscribe, Append, Deliver, Copy, StoreFlags, Expunge, TakeRecents}
-use Rattle.mail_world.specs.Arrivals.{with_changed, with_messages, takes_mail, copied}
+use Rattle.mail_world.specs.Arrivals.{with_messages, takes_mail, copied}
 use Rattle.mail_world.specs.Storing.{with_stored, without_messages, without_recents}
 use Rattle.mail_world.specs.Subscriptions.{is_subscribed, subscribed}
 use Rattle.mail_world.specs.Renaming.{moves, new_name, with_name, renamed, inbox_renamed, with_inbox_moved, moved_inbox}
 use Rattle.mail_world.specs.Applying.{apply}
 use Rattle.mail_world.specs.Legal.{IsLegal, IsLegalMailbox, Ascend}
-use Rattle.mail_world.specs.Laws.{KeepsUids, RaisesModseqs, TellsOnce, Follows, tells}
+use Rattle.mail_world.specs.Laws.{TellsOnce, Follows, tells}
 use Rattle.mail_world.proofs.Finding.{find-map, find_passes, find-append_first}
 use Rattle.mail_world.proofs.Arriving.{entry_given, uids_same, modseqs_same, tells_none, tells_same, uids_more, modseqs_more, tells_more}
 use Rattle.mail_world.proofs.Leaving.{uids_stored, modseqs_stored, tells_stored, uids_left, modseqs_left, tells_left, tells_no_recents}

@@ -1,11 +1,10 @@
 -- A mailbox stays legal as messages come into it, and as its recents are taken.
-use Rattle.std.proofs.Common.{ℕ, ◌≡◌, ◌+◌, ◌<◌, ◌≤◌, ◌==◌, ◌^◌, ◌-◌, Bool, true, false, cond, not, List, [], ◌∷◌, ◌++◌, map, length, Option, Some, None, refl, sym, ap, subst, ◌∙◌, ◌⊎◌, inl, inr, ⊎_elim, arith, length-append}
-use Rattle.std.specs.Prelude.{nat_eq, nat_lt, nat_le, IsSome}
-use Rattle.std.specs.List.{find, filter, AllByRecursion}
+use Rattle.std.proofs.Common.{ℕ, ◌≡◌, ◌+◌, ◌<◌, ◌≤◌, ◌==◌, Bool, false, List, [], ◌∷◌, ◌++◌, map, length, Option, Some, None, refl, sym, ap, subst, ◌∙◌, ⊎_elim, arith, length-append}
+use Rattle.std.specs.Prelude.{nat_lt, nat_le, IsSome}
+use Rattle.std.specs.List.{AllByRecursion}
 use Rattle.std.specs.Option.{is_some}
 use Rattle.std.proofs.lemmas.Bool.{true≢false, cond_both, ltb-false, leb-false}
 use Rattle.std.proofs.lemmas.List.{map-append}
-use Rattle.std.proofs.lemmas.Option.{none-some, same_Some}
 use Rattle.date_grammar.specs.Stamps.{HasPrint}
 use Rattle.mail_world.specs.Worlds.{Mailbox, Entry, Gone, Message, entry_at, gone_at}
 use Rattle.mail_world.specs.Limits.{most_messages, last_uid, last_modseq}
@@ -13,8 +12,8 @@ use Rattle.mail_world.specs.Arrivals.{numbered, with_messages}
 use Rattle.mail_world.specs.Storing.{without_recents}
 use Rattle.mail_world.specs.Legal.{IsLegalMailbox, IsLegalEntry, IsGiven, AreFlags, Ascend}
 use Rattle.mail_world.proofs.Finding.{find-append_cases}
-use Rattle.mail_world.proofs.Arriving.{numbered-at, entry_given}
-use Rattle.mail_world.proofs.Ascending.{all-weaker, all-map, all-unmap, all_found, ascend-append, listed, number_is}
+use Rattle.mail_world.proofs.Arriving.{numbered-at}
+use Rattle.mail_world.proofs.Ascending.{all-weaker, all-map, all_found, ascend-append, listed, number_is}
 
 -- a message that may come into a mailbox
 pub record IsProperMessage (message : Message) : Type 0 where

@@ -1,7 +1,7 @@
 -- The id of a mailbox is given once.
-use Rattle.std.proofs.Common.{ℕ, ◌≡◌, ◌≢◌, ◌<◌, ◌≤◌, ◌==◌, Bool, true, false, cond, not, List, [], ◌∷◌, ◌++◌, map, Option, Some, None, refl, sym, ap, ◌∙◌, arith}
-use Rattle.std.specs.Prelude.{◌||◌, nat_eq, nat_le, count_by}
-use Rattle.std.specs.List.{filter, list_any}
+use Rattle.std.proofs.Common.{ℕ, ◌≡◌, ◌<◌, ◌==◌, Bool, true, false, cond, not, List, [], ◌∷◌, ◌++◌, map, Option, Some, None, refl, sym, ap, ◌∙◌, arith}
+use Rattle.std.specs.Prelude.{◌||◌, nat_le}
+use Rattle.std.specs.List.{filter}
 use Rattle.std.specs.Option.{option_map, is_some}
 use Rattle.std.specs.Prelude.{length}
 use Rattle.std.proofs.lemmas.Bool.{cond_both, eqb-false, ne_eqb, or_parts}
@@ -10,17 +10,17 @@ use Rattle.std.proofs.lemmas.Option.{none-some}
 use Rattle.row_tables.specs.Names.{user_named}
 use Rattle.mail_world.specs.Names.{inbox, is_inbox, mailbox_name, created_name, is_mailbox_name, is_user_name}
 use Rattle.mail_world.specs.Flags.{distinct}
-use Rattle.mail_world.specs.Worlds.{World, Mailbox, Message, mailbox_at, mailbox_named, has_id, is_named, is_owned_by, is_among}
+use Rattle.mail_world.specs.Worlds.{World, Mailbox, mailbox_at, mailbox_named, has_id, is_named, is_among}
 use Rattle.mail_world.specs.Limits.{most_users}
 use Rattle.mail_world.specs.Changes.{Change, AddUser, Create, Delete, Rename, Subscribe, Unsubscribe, Append, Deliver, Copy, StoreFlags, Expunge, TakeRecents, BadName, Exists, Full}
 use Rattle.mail_world.specs.Users.{new_mailbox, with_mailbox, new_user_id, is_full_of_mailboxes}
-use Rattle.mail_world.specs.Subscriptions.{is_subscribed, subscribed}
+use Rattle.mail_world.specs.Subscriptions.{is_subscribed}
 use Rattle.mail_world.specs.Arrivals.{with_changed, with_messages, takes_mail, copied}
 use Rattle.mail_world.specs.Storing.{with_stored, without_messages, without_recents}
 use Rattle.mail_world.specs.Renaming.{moves, new_name, with_name, renamed, inbox_renamed, with_inbox_moved, moved_inbox, rename_inbox_refused, rename_refused}
 use Rattle.mail_world.specs.Applying.{refused, apply}
 use Rattle.mail_world.specs.Legal.{IsLegal, Ascend}
-use Rattle.mail_world.specs.Laws.{WasGiven, KeepsIds}
+use Rattle.mail_world.specs.Laws.{KeepsIds}
 use Rattle.mail_world.proofs.Following.{step, step-at, found_in_all, more_keeps, left_keeps, stored_keeps}
 use Rattle.mail_world.proofs.Making.{next_above}
 use Rattle.mail_world.proofs.Moving.{accepted_as}

@@ -1,13 +1,13 @@
 -- A store stays legal where some mailboxes change and keep their ids, owners and names.
-use Rattle.std.proofs.Common.{ℕ, ◌≡◌, ◌+◌, ◌<◌, ◌≤◌, ◌==◌, Bool, true, false, cond, not, List, [], ◌∷◌, ◌++◌, map, length, Option, Some, None, refl, sym, ap, subst, ◌∙◌, ◌⊎◌, inl, inr, ⊎_elim, arith}
-use Rattle.std.specs.Prelude.{nat_eq, nat_lt, IsSome, count_by}
-use Rattle.std.specs.List.{find, filter, AllByRecursion}
+use Rattle.std.proofs.Common.{ℕ, ◌≡◌, ◌==◌, Bool, true, false, cond, List, [], ◌∷◌, map, length, Option, Some, None, refl, sym, ap, subst, ◌∙◌, arith}
+use Rattle.std.specs.Prelude.{IsSome, count_by}
+use Rattle.std.specs.List.{find, filter}
 use Rattle.std.specs.Option.{option_map, is_some}
 use Rattle.std.proofs.lemmas.Bool.{cond_both}
 use Rattle.std.proofs.lemmas.Option.{none-some, same_Some}
 use Rattle.std.proofs.lemmas.List.Sums.{length-filter}
 use Rattle.mail_world.specs.Names.{inbox}
-use Rattle.mail_world.specs.Worlds.{World, Mailbox, mailbox_at, mailbox_named, has_id, is_named, is_owned_by}
+use Rattle.mail_world.specs.Worlds.{World, Mailbox, mailbox_at, mailbox_named, is_named, is_owned_by}
 use Rattle.mail_world.specs.Arrivals.{with_changed}
 use Rattle.mail_world.specs.Legal.{IsLegal, IsLegalIn, IsLegalMailbox, Ascend}
 use Rattle.mail_world.proofs.Finding.{find-map}

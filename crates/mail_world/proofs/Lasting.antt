@@ -1,7 +1,7 @@
 -- A mailbox stays legal as flags are stored and messages expunged.
-use Rattle.std.proofs.Common.{ℕ, ◌≡◌, ◌+◌, ◌<◌, ◌≤◌, ◌==◌, Bool, true, false, cond, not, List, [], ◌∷◌, ◌++◌, map, length, Option, Some, None, refl, sym, ap, subst, ◌∙◌, ◌⊎◌, inl, inr, ⊎_elim, arith}
-use Rattle.std.specs.Prelude.{◌&&◌, nat_eq, nat_lt, nat_le, IsSome}
-use Rattle.std.specs.List.{find, filter, list_any, list_all, AllByRecursion}
+use Rattle.std.proofs.Common.{ℕ, ◌≡◌, ◌+◌, ◌<◌, ◌≤◌, ◌==◌, Bool, true, false, not, List, [], ◌∷◌, map, length, Option, Some, None, refl, sym, ap, subst, ◌∙◌, ⊎_elim, arith}
+use Rattle.std.specs.Prelude.{◌&&◌, nat_le, IsSome}
+use Rattle.std.specs.List.{filter, list_any, list_all, AllByRecursion}
 use Rattle.std.specs.Option.{is_some, option_map}
 use Rattle.std.proofs.lemmas.Bool.{true≢false, cond_both, cases_Bool, ltb-false, leb-false, and_parts, or_parts}
 use Rattle.std.proofs.lemmas.List.{length-map}
@@ -9,10 +9,10 @@ use Rattle.std.proofs.lemmas.List.Sums.{length-filter, count_by-le-length}
 use Rattle.std.proofs.lemmas.Option.{none-some, same_Some}
 use Rattle.imap_grammar.specs.declared.flags.Flag.{Flag}
 use Rattle.imap_grammar.specs.declared.flags.FlagChange.{FlagChange}
-use Rattle.mail_world.specs.Flags.{is_flag, same_flags}
+use Rattle.mail_world.specs.Flags.{is_flag}
 use Rattle.mail_world.specs.Worlds.{Mailbox, Entry, Gone, entry_at, gone_at, is_among}
 use Rattle.mail_world.specs.Limits.{most_flags, last_modseq}
-use Rattle.mail_world.specs.Storing.{is_changed, with_flags, with_stored, has_too_many, new_flags, with_gone, with_all_gone, without_messages}
+use Rattle.mail_world.specs.Storing.{is_changed, with_flags, with_stored, has_too_many, with_all_gone, without_messages}
 use Rattle.mail_world.specs.Legal.{IsLegalMailbox, IsLegalEntry, IsGiven, Ascend}
 use Rattle.mail_world.proofs.Keeping.{map_same}
 use Rattle.mail_world.proofs.Leaving.{restored, restored-at, mapped, HasLost, has_lost, gone_with, all_gone-at}

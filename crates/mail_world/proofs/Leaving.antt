@@ -1,19 +1,19 @@
 -- A mailbox whose flags were stored, whose messages were expunged, whose recents were taken or whose name changed follows from what
 -- it was.
-use Rattle.std.proofs.Common.{ℕ, ◌≡◌, ◌+◌, ◌<◌, ◌≤◌, ◌==◌, Bool, true, false, cond, not, List, [], ◌∷◌, ◌++◌, map, length, Option, Some, None, refl, sym, ap, subst, ◌∙◌, ◌⊎◌, inl, inr, ⊎_elim, arith}
-use Rattle.std.specs.Prelude.{IsSomeAnd, IsSome, nat_eq, nat_lt}
-use Rattle.std.specs.List.{find, filter, list_any}
-use Rattle.std.specs.Option.{option_map, option_or, is_some}
-use Rattle.std.proofs.lemmas.Bool.{true≢false, false≢true, eqb-true, eqb-false, lt-ltb, le-ltb, ltb-true, eq-eqb, ne_eqb, cond_both, cases_order, cases_Bool}
+use Rattle.std.proofs.Common.{ℕ, ◌≡◌, ◌+◌, ◌<◌, ◌≤◌, ◌==◌, Bool, true, false, cond, not, List, [], ◌∷◌, map, Option, Some, None, refl, sym, ap, ◌∙◌, ◌⊎◌, inl, inr, ⊎_elim, arith}
+use Rattle.std.specs.Prelude.{nat_lt}
+use Rattle.std.specs.List.{filter, list_any}
+use Rattle.std.specs.Option.{option_map, option_or}
+use Rattle.std.proofs.lemmas.Bool.{eqb-true, lt-ltb, le-ltb, eq-eqb, ne_eqb, cond_both, cases_order, cases_Bool}
 use Rattle.std.proofs.lemmas.List.Folds.{find-append}
 use Rattle.std.proofs.lemmas.Option.{none-some, same_Some}
 use Rattle.imap_grammar.specs.declared.flags.Flag.{Flag}
 use Rattle.imap_grammar.specs.declared.flags.FlagChange.{FlagChange}
-use Rattle.mail_world.specs.Worlds.{Mailbox, Entry, Gone, Message, entry_at, gone_at}
+use Rattle.mail_world.specs.Worlds.{Mailbox, Entry, Gone, entry_at, gone_at}
 use Rattle.mail_world.specs.Storing.{with_flags, is_changed, with_stored, with_gone, with_all_gone, without_messages, without_recents}
-use Rattle.mail_world.specs.Legal.{IsLegalMailbox, IsGiven}
+use Rattle.mail_world.specs.Legal.{IsLegalMailbox}
 use Rattle.mail_world.specs.Laws.{IsSameMail, KeepsUids, RaisesModseqs, TellsOnce}
-use Rattle.mail_world.proofs.Finding.{find-map, find_passes, find-filter_same, find-filter_none}
+use Rattle.mail_world.proofs.Finding.{find-map, find-filter_same, find-filter_none}
 use Rattle.mail_world.proofs.Arriving.{entry_given, uids_same, modseqs_same, tells_none, tells_same}
 
 abbrev has_uid : ℕ → Entry → Bool

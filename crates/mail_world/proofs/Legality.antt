@@ -1,14 +1,13 @@
 -- Each change that isn't refused keeps a legal store legal.
-use Rattle.std.proofs.Common.{ℕ, ◌≡◌, Bool, true, false, cond, List, [], ◌∷◌, Option, Some, None, refl, arith}
+use Rattle.std.proofs.Common.{ℕ, ◌≡◌, Bool, true, false, cond, List, None, refl, arith}
 use Rattle.std.proofs.lemmas.Option.{none-some}
 use Rattle.std.proofs.lemmas.Bool.{false≢true}
-use Rattle.std.specs.Prelude.{IsSome}
 use Rattle.std.specs.List.Sorted.{IsStrictlySortedBy}
 use Rattle.ordered_rows.specs.InsertLaws.{InsertLaws}
 use Rattle.row_tables.specs.Keys.{subscription_key}
 use Rattle.mail_world.specs.Names.{is_inbox, mailbox_name, created_name}
 use Rattle.mail_world.specs.Worlds.{World, no_world}
-use Rattle.mail_world.specs.Changes.{Change, AddUser, Create, Delete, Rename, Subscribe, Unsubscribe, Append, Deliver, Copy, StoreFlags, Expunge, TakeRecents, Refusal}
+use Rattle.mail_world.specs.Changes.{Change, AddUser, Create, Delete, Rename, Subscribe, Unsubscribe, Append, Deliver, Copy, StoreFlags, Expunge, TakeRecents}
 use Rattle.mail_world.specs.Renaming.{rename_refused, renamed, rename_inbox_refused, inbox_renamed}
 use Rattle.mail_world.specs.Applying.{refused, apply}
 use Rattle.mail_world.specs.Legal.{IsLegal, IsProper}

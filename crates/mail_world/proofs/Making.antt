@@ -1,23 +1,22 @@
 -- A store stays legal as a mailbox is made, for a user who is there or comes with it.
-use Rattle.std.proofs.Common.{ℕ, zero, suc, ◌≡◌, ◌≢◌, ◌+◌, ◌<◌, ◌≤◌, ◌==◌, Bool, true, false, cond, not, List, [], ◌∷◌, ◌++◌, map, length, Option, Some, None, refl, sym, ap, subst, ◌∙◌, ◌⊎◌, inl, inr, ⊎_elim, arith}
-use Rattle.std.specs.Prelude.{◌&&◌, nat_eq, nat_le, IsSome, count_by}
-use Rattle.std.specs.List.{find, AllByRecursion, range_with_len}
-use Rattle.std.specs.Option.{is_some, option_or}
+use Rattle.std.proofs.Common.{ℕ, zero, suc, ◌≡◌, ◌≢◌, ◌+◌, ◌<◌, ◌≤◌, ◌==◌, Bool, true, false, cond, List, [], ◌∷◌, ◌++◌, map, length, Some, None, refl, sym, ap, subst, ◌∙◌, ⊎_elim, arith}
+use Rattle.std.specs.Prelude.{nat_eq, IsSome, count_by}
+use Rattle.std.specs.List.{find, range_with_len}
 use Rattle.std.specs.Cmp.Lexicographic.{pointwise}
-use Rattle.std.proofs.lemmas.Bool.{true≢false, cond_both, eqb-true, eqb-false, eq-eqb, leb-false, and_parts, and_from, cases_order}
+use Rattle.std.proofs.lemmas.Bool.{cond_both, eqb-true, eqb-false, eq-eqb, and_from, cases_order}
 use Rattle.std.proofs.lemmas.List.{map-append}
 use Rattle.std.proofs.lemmas.List.Folds.{find-append}
 use Rattle.std.proofs.lemmas.List.Sums.{sum_by-append}
 use Rattle.std.proofs.lemmas.Option.{none-some, same_Some}
-use Rattle.row_tables.specs.Names.{user_named, has_user_name}
+use Rattle.row_tables.specs.Names.{user_named}
 use Rattle.row_tables.specs.declared.heads.User.{User}
-use Rattle.mail_world.specs.Names.{inbox, same_name}
+use Rattle.mail_world.specs.Names.{inbox}
 use Rattle.mail_world.specs.Worlds.{World, Mailbox, user_at, mailbox_at, mailbox_named, has_id, is_named, is_owned_by}
 use Rattle.mail_world.specs.Limits.{most_users, most_mailboxes, last_mailbox}
 use Rattle.mail_world.specs.Users.{next_id, with_mailbox, new_mailbox}
 use Rattle.mail_world.specs.Legal.{IsLegal, IsLegalIn, IsLegalMailbox, Ascend}
-use Rattle.mail_world.proofs.Finding.{find_passes, find-append_cases, find-append_first}
-use Rattle.mail_world.proofs.Ascending.{all-weaker, all-map, all-unmap, all_found, ascend-append, listed, number_is}
+use Rattle.mail_world.proofs.Finding.{find-append_cases, find-append_first}
+use Rattle.mail_world.proofs.Ascending.{all-weaker, all-map, all_found, ascend-append, listed, number_is}
 
 pub same_itself : (name : List ℕ) → pointwise nat_eq name name ≡ true
 same_itself [] = refl

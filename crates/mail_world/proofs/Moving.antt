@@ -1,25 +1,25 @@
 -- A store stays legal as the messages of INBOX become those of a new mailbox.
-use Rattle.std.proofs.Common.{ℕ, ◌≡◌, ◌+◌, ◌<◌, ◌≤◌, ◌==◌, Bool, true, false, cond, not, List, [], ◌∷◌, ◌++◌, map, length, Option, Some, None, refl, sym, ap, subst, ◌∙◌, arith}
-use Rattle.std.specs.Prelude.{◌&&◌, nat_eq, nat_lt, nat_le, IsSome, count_by}
+use Rattle.std.proofs.Common.{ℕ, ◌≡◌, ◌+◌, ◌<◌, ◌==◌, Bool, true, false, not, List, [], ◌∷◌, map, length, Option, Some, None, refl, sym, ap, subst, ◌∙◌, arith}
+use Rattle.std.specs.Prelude.{◌&&◌, nat_lt, nat_le, count_by}
 use Rattle.std.specs.List.{list_any, AllByRecursion}
 use Rattle.std.specs.Option.{is_some, option_map}
-use Rattle.std.proofs.lemmas.Bool.{true≢false, eqb-true, le-leb, lt-leb, le-ltb, and_parts}
+use Rattle.std.proofs.lemmas.Bool.{true≢false, eqb-true, le-leb, le-ltb, and_parts}
 use Rattle.std.proofs.lemmas.List.{length-map}
 use Rattle.std.proofs.lemmas.List.Sums.{count_by-le-length}
 use Rattle.mail_world.specs.Names.{inbox, is_mailbox_name}
 use Rattle.mail_world.specs.Worlds.{World, Mailbox, Entry, Message, mailbox_at, mailbox_named, user_at, is_named, is_owned_by}
 use Rattle.mail_world.specs.Limits.{most_mailboxes, most_messages, last_uid, last_modseq}
 use Rattle.mail_world.specs.Changes.{BadName, Absent, Exists, Full}
-use Rattle.mail_world.specs.Users.{new_mailbox, with_mailbox, is_full_of_mailboxes}
+use Rattle.mail_world.specs.Users.{new_mailbox, is_full_of_mailboxes}
 use Rattle.mail_world.specs.Arrivals.{with_changed, with_messages}
 use Rattle.mail_world.specs.Storing.{without_messages}
 use Rattle.mail_world.specs.Renaming.{keeps_its_messages, rename_inbox_refused, moved_inbox, with_inbox_moved, inbox_renamed}
 use Rattle.mail_world.specs.Legal.{IsLegal, IsLegalMailbox}
-use Rattle.mail_world.proofs.Finding.{find-map, find_passes}
+use Rattle.mail_world.proofs.Finding.{find_passes}
 use Rattle.mail_world.proofs.Following.{step, more_keeps}
 use Rattle.mail_world.proofs.Apart.{more_owner}
 use Rattle.mail_world.proofs.Ascending.{all-map, all_found, listed}
-use Rattle.mail_world.proofs.Keeping.{KeepsTitle, changed-legal, named_step, count_same, step_keeps}
+use Rattle.mail_world.proofs.Keeping.{changed-legal, named_step, count_same, step_keeps}
 use Rattle.mail_world.proofs.Growing.{IsProperMessage, more-legal, first-legal}
 use Rattle.mail_world.proofs.Lasting.{left-legal, all_fail}
 use Rattle.mail_world.proofs.Staying.{left_title, more_title}

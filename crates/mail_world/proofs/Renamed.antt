@@ -1,15 +1,15 @@
 -- A store stays legal as a mailbox and its inferiors are renamed.
-use Rattle.std.proofs.Common.{ℕ, ◌≡◌, ◌+◌, ◌<◌, ◌≤◌, ◌==◌, Bool, true, false, cond, not, List, [], ◌∷◌, ◌++◌, map, length, take, drop, Option, Some, None, refl, sym, ap, subst, ◌∙◌, ◌⊎◌, inl, inr, ⊎_elim, arith, append_assoc, append-nil}
-use Rattle.std.specs.Prelude.{◌&&◌, ◌||◌, nat_eq, nat_lt, IsSome, count_by}
+use Rattle.std.proofs.Common.{ℕ, ◌≡◌, ◌==◌, Bool, true, false, cond, not, List, [], ◌∷◌, ◌++◌, map, length, take, drop, Option, Some, None, refl, sym, ap, subst, ◌∙◌, ⊎_elim, arith, append_assoc, append-nil}
+use Rattle.std.specs.Prelude.{◌&&◌, nat_eq, nat_lt, IsSome}
 use Rattle.std.specs.List.{find, list_any, AllByRecursion}
 use Rattle.std.specs.Option.{is_some}
 use Rattle.std.specs.Cmp.Lexicographic.{pointwise}
 use Rattle.std.proofs.Math.Seq.{drop-append_seam}
-use Rattle.std.proofs.lemmas.Bool.{true≢false, false≢true, cond_both, eqb-true, and_parts, and_right, and_from, eq-eqb, or_cases, or_from, or_left, or_right, false_from_ne_true}
+use Rattle.std.proofs.lemmas.Bool.{true≢false, false≢true, cond_both, eqb-true, and_parts, and_right, and_from, eq-eqb, or_cases, or_left, or_right, false_from_ne_true}
 use Rattle.std.proofs.lemmas.List.{take-append-drop}
 use Rattle.std.proofs.lemmas.List.Folds.{list_any-append}
 use Rattle.std.proofs.lemmas.Option.{none-some, same_Some}
-use Rattle.mail_world.specs.Names.{inbox, is_inbox, same_name, separator, is_mailbox_name, is_inferior, is_renamed, renamed_as, longest_name}
+use Rattle.mail_world.specs.Names.{inbox, is_inbox, same_name, separator, is_mailbox_name, is_inferior, is_renamed, longest_name}
 use Rattle.mail_world.specs.Worlds.{World, Mailbox, user_at, mailbox_at, mailbox_named, has_id, is_named, is_owned_by}
 use Rattle.mail_world.specs.Changes.{BadName, Absent, Exists}
 use Rattle.mail_world.specs.Renaming.{moves, new_name, rename_refused, with_name, renamed}
@@ -18,9 +18,9 @@ use Rattle.mail_world.proofs.Finding.{find_passes}
 use Rattle.mail_world.proofs.Following.{step, step-at}
 use Rattle.mail_world.proofs.Ascending.{listed, all_found}
 use Rattle.mail_world.proofs.Keeping.{map_same, count_same, mapped}
-use Rattle.mail_world.proofs.Growing.{first-legal, given_more, legal_more}
+use Rattle.mail_world.proofs.Growing.{given_more, legal_more}
 use Rattle.mail_world.proofs.Lasting.{all_fail}
-use Rattle.mail_world.proofs.Making.{same_itself, found_at}
+use Rattle.mail_world.proofs.Making.{same_itself}
 use Rattle.mail_world.proofs.Coming.{same_bytes}
 use Rattle.mail_world.proofs.Accepting.{not_refused}
 

@@ -1,6 +1,6 @@
 -- A store stays legal as messages come into its mailboxes, as their flags are stored, as they are expunged, and as recents are taken.
-use Rattle.std.proofs.Common.{ℕ, ◌≡◌, ◌+◌, ◌<◌, ◌≤◌, ◌==◌, Bool, true, false, cond, not, List, [], ◌∷◌, ◌++◌, map, length, Option, Some, None, refl, sym, ap, subst, ◌∙◌, arith}
-use Rattle.std.specs.Prelude.{◌&&◌, ◌||◌, nat_eq, nat_lt, nat_le}
+use Rattle.std.proofs.Common.{ℕ, ◌≡◌, ◌+◌, ◌==◌, Bool, true, false, not, List, [], ◌∷◌, length, Option, Some, None, refl, sym, ap, subst, ◌∙◌, arith}
+use Rattle.std.specs.Prelude.{◌&&◌, ◌||◌, nat_lt, nat_le}
 use Rattle.std.specs.List.{filter, list_any, list_all, AllByRecursion}
 use Rattle.std.proofs.lemmas.Bool.{true≢false, cond_both, and_parts, or_parts, not-true, ltb-false, ne_eqb}
 use Rattle.std.proofs.lemmas.Option.{none-some}
@@ -11,12 +11,12 @@ use Rattle.imap_grammar.specs.declared.flags.FlagChange.{FlagChange}
 use Rattle.mime_tree.specs.declared.reasons.Mail.{Mail}
 use Rattle.mail_world.specs.Names.{inbox, same_name}
 use Rattle.mail_world.specs.Flags.{distinct, is_flag}
-use Rattle.mail_world.specs.Worlds.{World, Mailbox, Entry, Message, mailbox_at, has_id, is_among}
+use Rattle.mail_world.specs.Worlds.{World, Mailbox, Message, mailbox_at, has_id, is_among}
 use Rattle.mail_world.specs.Limits.{most_flags, most_messages, last_modseq}
 use Rattle.mail_world.specs.Changes.{Refusal, Absent, Full, NoUid, first_refusal}
-use Rattle.mail_world.specs.Arrivals.{with_messages, has_no_room, has_no_uids, append_refused, appended, takes_mail, delivered, messages_at, messages_in, copied, copy_refused, with_copies, refused_by, unless_absent}
+use Rattle.mail_world.specs.Arrivals.{with_messages, has_no_room, has_no_uids, append_refused, appended, takes_mail, delivered, messages_in, copied, copy_refused, with_copies, refused_by, unless_absent}
 use Rattle.mail_world.specs.Storing.{store_refused, stored, with_stored, has_too_many, is_changed, expunge_refused, expunged, without_messages, recents_taken, without_recents}
-use Rattle.mail_world.specs.Legal.{IsLegal, IsLegalMailbox, AreFlags}
+use Rattle.mail_world.specs.Legal.{IsLegal, IsLegalMailbox}
 use Rattle.mail_world.proofs.Following.{left_owner, stored_owner, left_keeps, stored_keeps, more_keeps}
 use Rattle.mail_world.proofs.Apart.{more_owner}
 use Rattle.mail_world.proofs.Keeping.{KeepsTitle, changed-legal}

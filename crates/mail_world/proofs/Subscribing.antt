@@ -1,14 +1,14 @@
 -- A store stays legal as names are subscribed and unsubscribed.
-use Rattle.std.proofs.Common.{ℕ, ◌≡◌, ◌+◌, ◌<◌, ◌≤◌, ◌==◌, Bool, true, false, cond, not, List, [], ◌∷◌, ◌++◌, map, length, Option, Some, None, refl, sym, ap, subst, ◌∙◌, ◌⊎◌, inl, inr, ⊎_elim, arith}
-use Rattle.std.specs.Prelude.{◌&&◌, nat_eq, nat_le, IsSome, count_by, sum_by}
-use Rattle.std.specs.List.{filter, AllByRecursion}
+use Rattle.std.proofs.Common.{ℕ, ◌≡◌, ◌+◌, ◌<◌, ◌≤◌, ◌==◌, Bool, true, false, cond, not, List, [], ◌∷◌, length, Option, Some, None, refl, sym, subst, ◌∙◌, arith}
+use Rattle.std.specs.Prelude.{◌&&◌, nat_le, IsSome, count_by}
+use Rattle.std.specs.List.{filter}
 use Rattle.std.specs.Option.{is_some}
 use Rattle.std.proofs.lemmas.Bool.{true≢false, cond_both, eqb-true, leb-false, and_parts}
 use Rattle.std.proofs.lemmas.List.Filters.{sum_by-filter_both}
 use Rattle.std.proofs.lemmas.List.Kept.{IsStrictlySortedBy-filter}
 use Rattle.std.proofs.lemmas.List.Sums.{sum_by-append, length-filter}
 use Rattle.ordered_rows.specs.InsertLaws.{InsertLaws}
-use Rattle.ordered_rows.specs.Listed.{IsInOrder, row_at, row_cmp, with_row, without, is_below, has_key}
+use Rattle.ordered_rows.specs.Listed.{row_at, row_cmp, with_row, without, is_below, has_key}
 use Rattle.row_tables.specs.Keys.{owned_key, subscription_key}
 use Rattle.row_tables.specs.declared.heads.Subscription.{Subscription}
 use Rattle.mail_world.specs.Names.{is_mailbox_name}

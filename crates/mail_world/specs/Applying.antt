@@ -1,5 +1,5 @@
 -- Whether a change is refused, and what it makes of the store.
-use Rattle.std.specs.Prelude.{ℕ, List, Option, None, if◌then◌else◌}
+use Rattle.std.specs.Prelude.{Option, None, if◌then◌else◌}
 use Rattle.mail_world.specs.Names.{is_inbox, mailbox_name, created_name}
 use Rattle.mail_world.specs.Worlds.{World}
 use Rattle.mail_world.specs.Changes.{Change, AddUser, Create, Delete, Rename, Subscribe, Unsubscribe, Append, Deliver, Copy, StoreFlags, Expunge, TakeRecents, Refusal}

@@ -1,5 +1,5 @@
 -- Messages that come into mailboxes: appended, delivered, copied (RFC 3501 §6.3.11, §6.4.7; RFC 2033).
-use Rattle.std.specs.Prelude.{ℕ, ◌+◌, ◌==◌, ◌&&◌, ◌||◌, Bool, true, false, not, nat_le, nat_lt, if◌then◌else◌, List, [], ◌∷◌, ◌++◌, length, map, filter, Option, Some, None, is_some}
+use Rattle.std.specs.Prelude.{ℕ, ◌+◌, ◌==◌, ◌&&◌, ◌||◌, Bool, not, nat_le, nat_lt, if◌then◌else◌, List, [], ◌∷◌, ◌++◌, length, map, filter, Option, Some, None}
 use Rattle.date_grammar.specs.declared.parts.Stamp.{Stamp}
 use Rattle.imap_grammar.specs.declared.flags.Flag.{Flag}
 use Rattle.mime_tree.specs.declared.reasons.Mail.{Mail}

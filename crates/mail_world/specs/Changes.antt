@@ -1,5 +1,5 @@
 -- What can be done to a store, and why it is not.
-use Rattle.std.specs.Prelude.{ℕ, Bool, true, false, List, [], ◌∷◌, Option, Some, None, if◌then◌else◌}
+use Rattle.std.specs.Prelude.{ℕ, Bool, List, [], ◌∷◌, Option, Some, None, if◌then◌else◌}
 use Rattle.date_grammar.specs.declared.parts.Stamp.{Stamp}
 use Rattle.imap_grammar.specs.declared.flags.Flag.{Flag}
 use Rattle.imap_grammar.specs.declared.flags.FlagChange.{FlagChange}

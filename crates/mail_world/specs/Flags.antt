@@ -1,5 +1,5 @@
 -- Flags of a message, as a set (RFC 3501 §2.3.2). `\Recent` is none of them.
-use Rattle.std.specs.Prelude.{ℕ, ◌++◌, ◌==◌, ◌&&◌, Bool, true, false, not, nat_eq, nat_le, List, [], ◌∷◌, length, filter, map}
+use Rattle.std.specs.Prelude.{◌++◌, ◌==◌, ◌&&◌, Bool, true, false, not, nat_eq, nat_le, List, [], ◌∷◌, length, filter}
 use Rattle.std.specs.List.{list_all, list_any}
 use Rattle.std.specs.Cmp.Lexicographic.{pointwise}
 use Rattle.std.specs.Char.{to_ascii_lowercase}

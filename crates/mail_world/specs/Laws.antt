@@ -1,5 +1,5 @@
 -- What users rely on, whatever changes are made.
-use Rattle.std.specs.Prelude.{◌≡◌, ◌≢◌, ℕ, ◌+◌, ◌<◌, ◌≤◌, ◌⊎◌, ◌==◌, ◌&&◌, Bool, true, false, List, Option, Some, None, IsSomeAnd}
+use Rattle.std.specs.Prelude.{◌≡◌, ◌≢◌, ℕ, ◌<◌, ◌≤◌, ◌⊎◌, ◌==◌, ◌&&◌, Bool, true, false, Some, None, IsSomeAnd}
 use Rattle.std.specs.List.{list_any}
 use Rattle.mail_world.specs.Worlds.{World, Mailbox, Entry, Gone, mailbox_at, entry_at, gone_at, has_id, is_owned_by, is_among}
 use Rattle.mail_world.specs.Changes.{Change, AddUser, Create, Delete, Rename, Subscribe, Unsubscribe, Append, Deliver, Copy, StoreFlags, Expunge, TakeRecents}

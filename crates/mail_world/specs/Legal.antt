@@ -1,5 +1,5 @@
 -- What holds of every store that is made by changes from nothing.
-use Rattle.std.specs.Prelude.{◌≡◌, ◌≢◌, ◌==◌, ℕ, ◌+◌, ◌<◌, ◌≤◌, true, ⊤, List, [], ◌∷◌, length, map, count_by, Option, Some, None, IsSome, IsTrue}
+use Rattle.std.specs.Prelude.{◌≡◌, ◌≢◌, ◌==◌, ℕ, ◌+◌, ◌<◌, ◌≤◌, true, ⊤, List, [], ◌∷◌, length, map, count_by, Some, None, IsSome}
 use Rattle.std.specs.List.{AllByRecursion, list_all, range_with_len}
 use Rattle.date_grammar.specs.Stamps.{HasPrint}
 use Rattle.imap_grammar.specs.declared.flags.Flag.{Flag}
@@ -7,7 +7,6 @@ use Rattle.ordered_rows.specs.Listed.{IsInOrder}
 use Rattle.row_tables.specs.Keys.{subscription_key}
 use Rattle.row_tables.specs.Names.{user_named}
 use Rattle.row_tables.specs.declared.heads.User.{User}
-use Rattle.row_tables.specs.declared.heads.Subscription.{Subscription}
 use Rattle.mail_world.specs.Names.{inbox}
 use Rattle.mail_world.specs.Flags.{is_flag, are_distinct}
 use Rattle.mail_world.specs.Worlds.{World, Mailbox, Entry, Gone, user_at, mailbox_at, mailbox_named, entry_at, gone_at, is_owned_by}

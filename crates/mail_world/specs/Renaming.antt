@@ -1,7 +1,7 @@
 -- RENAME: a mailbox with its inferiors, or the messages of INBOX (RFC 3501 §6.3.5).
-use Rattle.std.specs.Prelude.{ℕ, ◌+◌, ◌==◌, ◌&&◌, ◌||◌, Bool, true, false, not, nat_le, nat_lt, if◌then◌else◌, List, [], ◌∷◌, length, map, Option, Some, None, is_some, count_by}
+use Rattle.std.specs.Prelude.{ℕ, ◌+◌, ◌&&◌, Bool, true, false, not, nat_le, nat_lt, List, [], ◌∷◌, length, map, Option, Some, None, is_some, count_by}
 use Rattle.std.specs.List.{list_any}
-use Rattle.mail_world.specs.Names.{inbox, is_inbox, is_mailbox_name, is_renamed, renamed_as, longest_name}
+use Rattle.mail_world.specs.Names.{inbox, is_mailbox_name, is_renamed, renamed_as, longest_name}
 use Rattle.mail_world.specs.Worlds.{World, Mailbox, mailbox_named, is_named, is_owned_by}
 use Rattle.mail_world.specs.Limits.{last_modseq}
 use Rattle.mail_world.specs.Changes.{Refusal, BadName, Absent, Exists, Full, first_refusal}

@@ -1,8 +1,7 @@
 -- Subscriptions: the names that a user keeps in a list of active ones (RFC 3501 §6.3.6, §6.3.7).
-use Rattle.std.specs.Prelude.{ℕ, ◌&&◌, Bool, true, false, not, nat_le, ◌==◌, if◌then◌else◌, List, [], ◌∷◌, Option, Some, None, is_some, count_by}
+use Rattle.std.specs.Prelude.{ℕ, ◌&&◌, Bool, not, nat_le, ◌==◌, if◌then◌else◌, List, [], ◌∷◌, Option, is_some, count_by}
 use Rattle.ordered_rows.specs.Listed.{row_at, with_row, without}
 use Rattle.row_tables.specs.Keys.{owned_key, subscription_key}
-use Rattle.row_tables.specs.declared.heads.Subscription.{Subscription}
 use Rattle.mail_world.specs.Names.{is_mailbox_name}
 use Rattle.mail_world.specs.Worlds.{World, mailbox_named}
 use Rattle.mail_world.specs.Limits.{most_subscriptions}

@@ -1,7 +1,7 @@
 -- Mailboxes that are made and deleted, and users, who have an INBOX from the start (RFC 3501 §6.3.3, §6.3.4).
-use Rattle.std.specs.Prelude.{ℕ, ◌+◌, ◌==◌, ◌||◌, Bool, true, false, not, nat_le, nat_lt, if◌then◌else◌, List, [], ◌∷◌, ◌++◌, length, Option, Some, None, is_some, filter, count_by}
+use Rattle.std.specs.Prelude.{ℕ, ◌+◌, ◌==◌, ◌||◌, Bool, false, not, nat_le, if◌then◌else◌, List, [], ◌∷◌, ◌++◌, length, Option, Some, None, is_some, filter, count_by}
 use Rattle.row_tables.specs.Names.{user_named}
-use Rattle.mail_world.specs.Names.{inbox, is_inbox, is_mailbox_name, is_user_name, mailbox_name, created_name}
+use Rattle.mail_world.specs.Names.{inbox, is_inbox, is_mailbox_name, is_user_name}
 use Rattle.mail_world.specs.Worlds.{World, Mailbox, mailbox_named, is_among, is_named, is_owned_by}
 use Rattle.mail_world.specs.Limits.{most_users, most_mailboxes, last_mailbox}
 use Rattle.mail_world.specs.Changes.{Refusal, BadName, Absent, Exists, InUse, Full, first_refusal}

@@ -1,5 +1,5 @@
 -- What a mail store is to its users, as plain lists.
-use Rattle.std.specs.Prelude.{ℕ, ◌==◌, ◌&&◌, ◌||◌, Bool, true, false, List, [], ◌∷◌, Option, filter, find, is_some}
+use Rattle.std.specs.Prelude.{ℕ, ◌==◌, Bool, List, [], Option, filter, find}
 use Rattle.std.specs.List.{list_any}
 use Rattle.row_tables.specs.declared.heads.User.{User}
 use Rattle.row_tables.specs.declared.heads.Mailbox.{Mailbox as Head}
