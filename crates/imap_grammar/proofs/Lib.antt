@@ -1,3 +1,6 @@
 mod SpellingLemmas
 mod Turns
 mod OpeningLemmas
+mod ListLaws
+mod RuleLaws
+mod ItemLaws

@@ -1,6 +1,6 @@
 -- Lists of what one rule reads.
-use Rattle.std.specs.Prelude.{ℕ, zero, suc, if◌then◌else◌, List, [], ◌∷◌, ◌++◌, length, Some}
-use Rattle.imap_grammar.specs.Readings.{Reading, ◌>>=◌, ◌>>◌, byte, pure, nothing, sees, after}
+use Rattle.std.specs.Prelude.{◌≡◌, ◌≤◌, ℕ, zero, suc, if◌then◌else◌, List, [], ◌∷◌, ◌++◌, length, Some}
+use Rattle.imap_grammar.specs.Readings.{Reading, ◌>>=◌, ◌>>◌, byte, begun, pure, nothing, sees, after}
 
 -- One or more, each two with a byte between, behind what was found. The number bounds the turns; each turn takes a byte, so the
 -- length of the text is enough.
@@ -21,3 +21,15 @@ listed item = do
   xs ← separated 32 item
   byte 41
   pure xs
+
+-- More turns than a text has bytes read the same.
+abbrev pub TurnsSuffice : {A : Type 0} → Reading A → Type 0
+TurnsSuffice item = (between turns : ℕ) (text : List ℕ) → length text ≤ turns → separated_from between item turns [] text ≡ separated between item text
+
+-- A list is one, or one and behind the byte between a list.
+abbrev pub IsOneOrMore : {A : Type 0} → Reading A → Type 0
+IsOneOrMore item = (between : ℕ) (text : List ℕ) → separated between item text ≡ (item >>= (λ x. begun between (byte between >> (separated between item >>= (λ xs. pure (x ∷ xs)))) (pure (x ∷ [])))) text
+
+-- What lists of the rule are, whatever counts the turns.
+abbrev pub IsList : {A : Type 0} → Reading A → Type 0
+IsList item = TurnsSuffice item × IsOneOrMore item
