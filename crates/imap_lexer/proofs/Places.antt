@@ -9,8 +9,8 @@ use Rattle.imap_lexer.specs.declared.units.Fed.TheVariants.{More, Continue, Unit
 use Rattle.imap_lexer.specs.declared.literals.LineRead.{LineRead}
 use Rattle.imap_lexer.specs.Literals.{line_end, literal_behind}
 use Rattle.imap_lexer.specs.Units.{Reading, behind_line, behind_line_byte, ending, first, line_limit, literal_limit, reading, reads, reads_byte, shown, unread}
-use Rattle.imap_lexer.specs.Lexer.{IsPlaced, IsRead, line_so_far}
-use Rattle.imap_lexer.proofs.Cuts.{first-shows}
+use Rattle.imap_lexer.specs.Lexer.{GoesOn, IsPlaced, IsRead, line_so_far}
+use Rattle.imap_lexer.proofs.Cuts.{fed-next, first-shows}
 
 -- how a reading stands to its bytes
 record IsGood (bytes : List ℕ) (r : Reading) : Type 0 where
@@ -20,7 +20,7 @@ record IsGood (bytes : List ℕ) (r : Reading) : Type 0 where
   lines : r.lines ≤ line_limit
   literals : r.literals ≤ literal_limit
 
-not_below : (a b : ℕ) → nat_lt a b ≡ false → b ≤ a
+pub not_below : (a b : ℕ) → nat_lt a b ≡ false → b ≤ a
 not_below a b h = grind (arith, nat_tests, h)
 
 good-continue : (bytes : List ℕ) (lines literals count : ℕ) → lines ≤ line_limit → literals ≤ literal_limit → lines + literals ≤ length bytes
@@ -73,7 +73,7 @@ one_more : (bytes : List ℕ) (byte : ℕ) → length (bytes ++ byte ∷ []) ≡
 one_more bytes byte = length-append bytes (byte ∷ [])
 
 -- a byte of a literal, and a byte of a line
-byte-literal : (form : Form) (r : Reading) (byte : ℕ) → 0 < r.left
+pub byte-literal : (form : Form) (r : Reading) (byte : ℕ) → 0 < r.left
     → reads_byte form r byte ≡ record { shows = More; line = r.line; lines = r.lines; literals = r.literals; left = r.left - 1 }
 byte-literal form r byte h =
     let test : nat_lt 0 r.left ≡ true = grind (arith, nat_tests, h) in rw test refl
@@ -173,6 +173,57 @@ pub literal-pushed : {A E : Type 0} (result : Result A E) (form : Form) (bytes n
 literal-pushed (Ok x) form bytes new byte lines literals room room' e p h more fits = literal-placed form bytes new byte lines literals room room' p h e fits
 literal-pushed (Err x) form bytes new byte lines literals room room' e p h more fits =
     rw e (record { lines_are = p.lines_are; literals_are = p.literals_are; roomy = omega (arith, p.roomy, more) })
+
+-- The same where bytes of a literal come together.
+
+pub literal-left : (form : Form) (bytes : List ℕ) (lines literals room : ℕ) → IsPlaced form bytes lines literals room → (reading form bytes).left ≡ lines + literals - length bytes
+literal-left form bytes lines literals room p = left_is form bytes lines literals room p
+
+literal-first : (form : Form) (bytes : List ℕ) (byte lines literals room : ℕ) → IsPlaced form bytes lines literals room → length bytes < lines + literals
+    → IsPlaced form (bytes ++ byte ∷ []) lines literals (length bytes + (line_limit + 2))
+literal-first form bytes byte lines literals room p h = literal-placed form bytes (bytes ++ byte ∷ []) byte lines literals room (length bytes + (line_limit + 2)) p h refl (omega arith)
+
+pub literals-placed : (form : Form) (bytes more : List ℕ) (lines literals room room' : ℕ) → IsPlaced form bytes lines literals room → length bytes + length more ≤ lines + literals
+    → length bytes + length more + (line_limit + 1) ≤ room' → IsPlaced form (bytes ++ more) lines literals room'
+literals-placed form bytes [] lines literals room room' p h fits =
+    subst (λ (l : List ℕ). IsPlaced form l lines literals room') (sym (append-nil bytes))
+    (record { lines_are = p.lines_are; literals_are = p.literals_are; roomy = omega (arith, left_is form bytes lines literals room p, p.literals_are, fits) })
+literals-placed form bytes (b ∷ bs) lines literals room room' p h fits =
+    subst (λ (l : List ℕ). IsPlaced form l lines literals room') (append_assoc bytes (b ∷ []) bs)
+    (literals-placed form (bytes ++ b ∷ []) bs lines literals (length bytes + (line_limit + 2)) room' (literal-first form bytes b lines literals room p (omega (arith, h)))
+    (omega (arith, h, one_more bytes b)) (omega (arith, fits, one_more bytes b)))
+
+-- they were taken, or they were not
+pub literals-extended : {A E : Type 0} (result : Result A E) (form : Form) (bytes new more : List ℕ) (lines literals room room' : ℕ)
+    → new ≡ cond (is_ok result) (bytes ++ more) bytes → IsPlaced form bytes lines literals room → length bytes + length more ≤ lines + literals → room ≤ room'
+    → length bytes + length more + (line_limit + 1) ≤ room' → IsPlaced form new lines literals room'
+literals-extended (Ok x) form bytes new more lines literals room room' e p h larger fits = rw e (literals-placed form bytes more lines literals room room' p h fits)
+literals-extended (Err x) form bytes new more lines literals room room' e p h larger fits =
+    rw e (record { lines_are = p.lines_are; literals_are = p.literals_are; roomy = omega (arith, p.roomy, larger) })
+
+literal-none : (form : Form) (bytes : List ℕ) (byte lines literals room : ℕ) → IsPlaced form bytes lines literals room → length bytes < lines + literals → first form bytes ≡ None
+    → first form (bytes ++ byte ∷ []) ≡ None
+literal-none form bytes byte lines literals room p h none =
+    fed-next form bytes (bytes ++ byte ∷ []) byte More none refl (literal-shown form bytes (bytes ++ byte ∷ []) byte lines literals room p h refl)
+
+pub literals-none : (form : Form) (bytes more : List ℕ) (lines literals room : ℕ) → IsPlaced form bytes lines literals room → length bytes + length more ≤ lines + literals → first form bytes ≡ None
+    → first form (bytes ++ more) ≡ None
+literals-none form bytes [] lines literals room p h none = ap (first form) (append-nil bytes) ∙ none
+literals-none form bytes (b ∷ bs) lines literals room p h none =
+    ap (first form) (sym (append_assoc bytes (b ∷ []) bs))
+    ∙ literals-none form (bytes ++ b ∷ []) bs lines literals (length bytes + (line_limit + 2)) (literal-first form bytes b lines literals room p (omega (arith, h)))
+    (omega (arith, h, one_more bytes b)) (literal-none form bytes b lines literals room p (omega (arith, h)) none)
+
+pub literals-go_on : (form : Form) (bytes more : List ℕ) (lines literals room : ℕ) → IsPlaced form bytes lines literals room → length bytes + length more ≤ lines + literals → first form bytes ≡ None
+    → GoesOn form bytes more
+literals-go_on form bytes [] lines literals room p h none = tt
+literals-go_on form bytes (b ∷ bs) lines literals room p h none =
+    let within : length bytes < lines + literals = omega (arith, h) in
+    let is_none = literal-none form bytes b lines literals room p within none in (
+      sym (literal-shown form bytes (bytes ++ b ∷ []) b lines literals room p within refl),
+      is_none,
+      literals-go_on form (bytes ++ b ∷ []) bs lines literals (length bytes + (line_limit + 2)) (literal-first form bytes b lines literals room p within) (omega (arith, h, one_more bytes b)) is_none,
+    )
 
 line-next : (form : Form) (bytes new : List ℕ) (byte lines literals room : ℕ) → IsPlaced form bytes lines literals room → lines + literals ≤ length bytes → new ≡ bytes ++ byte ∷ []
     → reading form new ≡ behind_line_byte form (line_so_far (drop (lines + literals) new) lines literals)

@@ -1,10 +1,10 @@
 -- What a lexer holds.
-use Rattle.std.specs.Prelude.{ℕ, ◌≡◌, ◌≤◌, ◌+◌, ◌-◌, ◌<◌, Bool, List, Option, option_map, min, if◌then◌else◌}
+use Rattle.std.specs.Prelude.{ℕ, ◌≡◌, ◌≤◌, ◌+◌, ◌-◌, ◌<◌, Bool, List, [], ◌∷◌, ◌++◌, Option, None, option_map, min, if◌then◌else◌}
 use Rattle.imap_lexer.specs.declared.units.Form.{Form}
 use Rattle.imap_lexer.specs.declared.units.Form.TheVariants.{Command, Plain}
 use Rattle.imap_lexer.specs.declared.units.Fed.TheVariants.{More}
 use Rattle.imap_lexer.specs.declared.literals.LineRead.{LineRead}
-use Rattle.imap_lexer.specs.Units.{Reading, line_limit, literal_limit, reading}
+use Rattle.imap_lexer.specs.Units.{Reading, first, line_limit, literal_limit, reading, shown}
 
 -- the form that is awaited
 abbrev pub form_of : Bool → Form
@@ -18,6 +18,12 @@ pub record Awaited : Type 0 where
 -- The unit that is awaited goes on with a byte of a literal.
 abbrev pub IsInLiteral : Awaited → Type 0
 IsInLiteral awaited = 0 < (reading awaited.form awaited.bytes).left
+
+-- Bytes are fed one by one behind others, and each shows that the unit goes on, and no more.
+abbrev pub GoesOn : Form → List ℕ → List ℕ → Type 0
+GoesOn form bytes [] = Unit {0}
+GoesOn form bytes (byte ∷ more) =
+    (shown form (bytes ++ byte ∷ []) ≡ More) × (first form (bytes ++ byte ∷ []) ≡ None) × GoesOn form (bytes ++ byte ∷ []) more
 
 -- one more than the literals of a unit may have together: no larger number differs from it
 abbrev pub too_many : ℕ

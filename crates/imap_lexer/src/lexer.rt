@@ -1,9 +1,9 @@
-//! A reader of units that is fed byte by byte.
+//! A reader of units that is fed byte by byte, and with slices within a literal.
 
-ghost use Rattle.std.specs.Prelude.{◌≡◌, ◌++◌, ◌∷◌, [], IfOk, OnOk, OnErr, None, vec_capacity};
+ghost use Rattle.std.specs.Prelude.{◌≡◌, ◌++◌, ◌∷◌, [], IfOk, OnOk, OnErr, None, length, min, take, vec_capacity};
 ghost use Rattle.imap_lexer.specs.declared.units.Form.TheVariants.{Command};
-ghost use Rattle.imap_lexer.specs.Units.{ended, ending, first, shown};
-ghost use Rattle.imap_lexer.specs.Lexer.{IsInLiteral, IsPlaced, form_of};
+ghost use Rattle.imap_lexer.specs.Units.{ended, ending, first, reading, shown};
+ghost use Rattle.imap_lexer.specs.Lexer.{GoesOn, IsInLiteral, IsPlaced, form_of};
 
 use crate::literals::read_line;
 use crate::units::Fed;
@@ -74,6 +74,30 @@ impl Lexer {
         self.lines = read.lines;
         self.literals = read.literals;
         Ok(read.fed)
+    }
+
+    /// Takes bytes of a literal: as many of the piece as it lacks, and none where the bytes since the last unit don't end
+    /// within a literal. Tells how many it took.
+    ///
+    /// This is feeding these bytes one by one: each would be told `Fed::More`. It costs no more than a copy. Where there is
+    /// no memory, no byte is taken, and the piece may be fed again.
+    pub fn feed_literal(&mut self, piece: &[u8]) -> Result<usize, AllocError>
+        requires { first self.old.form self.old.bytes ≡ None }
+        ensures taken { IfOk result (λ n. n ≡ min (reading self.old.form self.old.bytes).left (length piece.now)) }
+        ensures fed { IfOk result (λ n. self.new ≡ record { form = self.old.form; bytes = self.old.bytes ++ take n piece.now }) }
+        ensures each { IfOk result (λ n. GoesOn self.old.form self.old.bytes (take n piece.now)) }
+        ensures none { first self.new.form self.new.bytes ≡ None }
+        ensures refused { OnErr result (IsInLiteral self.old) }
+        ensures unchanged { OnErr result (self.new ≡ self.old) }
+    {
+        let begin = self.lines + self.literals;
+        if self.bytes.len() >= begin {
+            return Ok(0);
+        }
+        let count = (begin - self.bytes.len()).min(piece.len());
+        self.bytes.reserve(ROOM + count)?;
+        self.bytes.extend_from_slice(&piece[..count])?;
+        Ok(count)
     }
 
     /// The bytes since the last unit: after `Fed::Unit` the unit, with its CRLF; after `Fed::LineTooLong` and
@@ -150,6 +174,32 @@ mod tests {
         ] {
             assert!(rt; !is_one_command(&rt, text)?);
         }
+        Ok(())
+    }
+
+    // Takes bytes, of which only the last completes a command, and those of literals together.
+    fn is_taken_in_pieces(rt: &HostRuntime, text: &[u8]) -> Result<bool, Fail> {
+        let mut lexer = Lexer::new(rt.alloc())?;
+        let mut rest = text;
+        'pieces: for _ in 0..text.len() {
+            let taken = lexer.feed_literal(rest)?;
+            let Some((byte, behind)) = rest[taken..].split_first() else {
+                return Ok(false);
+            };
+            rest = behind;
+            match lexer.feed(*byte)? {
+                Fed::More | Fed::Continue => {}
+                Fed::Unit => return Ok(rest.is_empty() && lexer.unit() == text),
+                Fed::LineTooLong | Fed::LiteralTooLong => return Ok(false),
+            }
+        }
+        Ok(false)
+    }
+
+    #[test]
+    fn literals_come_in_pieces(rt: HostRuntime) -> Result<(), Fail> {
+        assert!(rt; is_taken_in_pieces(&rt, b"a {5}\r\n\r\nb\r\n{0}\r\n {2}\r\nxy\r\n")?);
+        assert!(rt; !is_taken_in_pieces(&rt, b"a {5}\r\n\r\nb\r")?);
         Ok(())
     }
 
