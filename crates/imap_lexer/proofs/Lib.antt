@@ -1,4 +1,5 @@
 mod Numbers
 pub mod Cuts
 mod Places
+mod Turns
 mod Examples

@@ -1,3 +1,4 @@
 pub mod Literals
 pub mod Units
+pub mod Turns
 pub mod Lexer

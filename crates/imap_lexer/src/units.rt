@@ -1,8 +1,10 @@
-//! The forms of units, what bytes show of one, and the law that a unit ends where it ends.
+//! The forms of units, what bytes show of one, and the laws of where units end and of what they are made of.
 
-ghost use Rattle.std.specs.Prelude.{ℕ, ◌≡◌, ◌++◌, ◌∷◌, List, [], Some, None};
+ghost use Rattle.std.specs.Prelude.{ℕ, ◌≡◌, ◌++◌, ◌∷◌, List, [], Some, None, map};
 ghost use Rattle.imap_lexer.specs.declared.units.Form.{Form};
+ghost use Rattle.imap_lexer.specs.declared.units.Shown.TheVariants.{Unit};
 ghost use Rattle.imap_lexer.specs.Units.{Cut, ending, first, is_prompted, shown};
+ghost use Rattle.imap_lexer.specs.Turns.{IsUnit, Turn, Written, fronts, in_turn, shown_in_turn};
 
 /// What a session awaits from its peer.
 #[derive(Clone, Copy, Debug, PartialEq, Eq)]
@@ -77,4 +79,15 @@ pub fn units_end_where_they_end()
         → first form (bytes ++ later) ≡ Some (record { unit = cut.unit; shows = cut.shows; rest = cut.rest ++ later }) }
     ensures at_last { (form : Form) (bytes : List ℕ) (byte : ℕ) (cut : Cut) → first form bytes ≡ None
         → first form (bytes ++ byte ∷ []) ≡ Some cut → (cut.unit ≡ bytes ++ byte ∷ []) × (cut.rest ≡ []) }
+{}
+
+/// Laws of what units are made of: lines and literals in turn that keep to the limits are one unit, whatever comes
+/// behind them; their fronts show that the unit goes on, with one prompt at the end of each announcement, and that it
+/// is whole at the last byte; and whatever is cut off as a whole unit is lines and literals in turn.
+pub fn lines_and_literals_are_units()
+    ensures unit { (form : Form) (turns : List Turn) (last rest : List ℕ) → IsUnit form turns last
+        → first form (in_turn turns last ++ rest) ≡ Some (record { unit = in_turn turns last; shows = Unit; rest = rest }) }
+    ensures fronts { (form : Form) (turns : List Turn) (last : List ℕ) → IsUnit form turns last
+        → map (shown form) (fronts (in_turn turns last)) ≡ shown_in_turn turns last }
+    ensures every { (form : Form) (bytes : List ℕ) (cut : Cut) → first form bytes ≡ Some cut → cut.shows ≡ Unit → Written form cut.unit }
 {}
