@@ -1,0 +1,10 @@
+mod Lists
+mod Nothing
+mod Frames
+mod Refusing
+mod Showing
+mod Making
+mod Owners
+mod Heading
+mod Deleting
+mod Examples

@@ -1,0 +1,62 @@
+//! Laws of what tables stand for, each the contract of a function that does nothing.
+
+ghost use Rattle.std.specs.Prelude.{◌≡◌, ◌+◌, ℕ, List, None, length, map};
+ghost use Rattle.std.specs.Option.{option_map};
+ghost use Rattle.ordered_rows.specs.RowKey.{number_key};
+ghost use Rattle.ordered_rows.specs.Listed.{row_at};
+ghost use Rattle.row_tables.specs.Keys.{mailbox_key, user_key};
+ghost use Rattle.row_tables.specs.Names as names;
+ghost use Rattle.row_tables.specs.TableRows.{TableRows, no_rows};
+ghost use Rattle.row_tables.specs.Fits.{CanRun, IsText, Runs};
+ghost use Rattle.row_tables.specs.declared.contents.BodyPart.{BodyPart};
+ghost use Rattle.mail_world.specs.Worlds.{World, mailbox_at, mailbox_named, no_world, user_at};
+ghost use Rattle.mail_world.specs.Changes.{AddUser};
+ghost use Rattle.mail_world.specs.Applying.{apply, refused};
+ghost use Rattle.mail_stands.specs.Stands.{Stands};
+ghost use Rattle.mail_stands.specs.Leading.{KeepsOwners, Leads};
+ghost use Rattle.mail_stands.specs.Refusals as refusals;
+ghost use Rattle.mail_stands.specs.RowChanges.{add_user_changes};
+
+use mail_world::stores_stay_legal;
+use ordered_rows::laws::{insertion, keys};
+use row_tables::{Mailbox, User};
+
+/// Tables as they are made stand for the store as it is made.
+pub fn no_rows_stand()
+    ensures { (content : BodyPart → List ℕ) → Stands content no_rows no_world }
+{
+    stores_stay_legal();
+}
+
+/// The row of a user, by the id or by the name, is the user of the world.
+pub fn user_rows()
+    ensures at { (content : BodyPart → List ℕ) (t : TableRows) (world : World) (id : ℕ) → Stands content t world
+        → row_at user_key (number_key id) t.heads.users ≡ user_at id world.users }
+    ensures named { (content : BodyPart → List ℕ) (t : TableRows) (world : World) (name : List ℕ) → Stands content t world
+        → names.user_named name t.heads.users ≡ names.user_named name world.users }
+{}
+
+/// The row of a mailbox, by the id or by owner and name, is the head of the mailbox of the world.
+pub fn mailbox_rows()
+    ensures at { (content : BodyPart → List ℕ) (t : TableRows) (world : World) (id : ℕ) → Stands content t world
+        → row_at mailbox_key (number_key id) t.heads.mailboxes ≡ option_map (λ mailbox. mailbox.head) (mailbox_at id world.mailboxes) }
+    ensures named { (content : BodyPart → List ℕ) (t : TableRows) (world : World) (owner : ℕ) (name : List ℕ) → Stands content t world
+        → names.mailbox_named owner name t.heads.mailboxes ≡ option_map (λ mailbox. mailbox.head) (mailbox_named owner name world.mailboxes) }
+{}
+
+/// A user that is added, with the user's INBOX. Over any tables the rows can be inserted where their ids are new, and no mailbox goes
+/// to another owner.
+pub fn add_user()
+    ensures refusal { (content : BodyPart → List ℕ) (t : TableRows) (world : World) (name verifier : List ℕ) → Stands content t world
+        → refusals.add_user_refused t name ≡ refused world (AddUser name verifier) }
+    ensures leads { (content : BodyPart → List ℕ) (t : TableRows) (world : World) (name verifier : List ℕ) → Stands content t world
+        → refusals.add_user_refused t name ≡ None → Leads content t (add_user_changes t name verifier) (apply world (AddUser name verifier)) }
+    ensures fit { (t : TableRows) (name verifier : List ℕ) → IsText name → row_at user_key (number_key (length t.heads.users + 1)) t.heads.users ≡ None
+        → row_at mailbox_key (number_key t.heads.counters.next) t.heads.mailboxes ≡ None → CanRun t (add_user_changes t name verifier) }
+    ensures owners { (t after : TableRows) (name verifier : List ℕ) → Runs t (add_user_changes t name verifier) after → KeepsOwners t after }
+{
+    keys();
+    insertion::<User>();
+    insertion::<Mailbox>();
+    stores_stay_legal();
+}

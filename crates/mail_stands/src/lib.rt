@@ -1,0 +1,11 @@
+//! What the rows of a store's tables stand for as a world, the mail store as plain lists, and the laws by which a change of rows goes on
+//! standing for the world after a change.
+//!
+//! There is no code here but functions whose contracts are laws of the definitions, which stand in `specs/`: `Stands` says what tables
+//! stand for, `Refusals` why a change is not made as the tables tell it, `RowChanges` and `Arriving` which rows make a change,
+//! `Leading` what they lead to, `Sameness` how far tables tell worlds apart.
+#![tactic(auto)]
+
+mod laws;
+
+pub use laws::{add_user, mailbox_rows, no_rows_stand, user_rows};
