@@ -1,5 +1,5 @@
 -- Changes of rows that change what tables stand for.
-use Rattle.std.specs.Prelude.{◌≡◌, ℕ, List, Some, IsSomeAnd}
+use Rattle.std.specs.Prelude.{◌≡◌, ◌==◌, ℕ, false, List, Some, IsSomeAnd}
 use Rattle.ordered_rows.specs.RowKey.{number_key}
 use Rattle.ordered_rows.specs.Listed.{row_at}
 use Rattle.row_tables.specs.Keys.{mailbox_key}
@@ -23,3 +23,8 @@ pub record KeepsOwners (t after : TableRows) : Type 0 where
   pub users : (id : ℕ) → HasUser t id → HasUser after id
   pub mailboxes : (id : ℕ) (row : Mailbox) → row_at mailbox_key (number_key id) t.heads.mailboxes ≡ Some row
       → IsSomeAnd (row_at mailbox_key (number_key id) after.heads.mailboxes) (λ now. now.owner ≡ row.owner)
+
+-- Whatever the tables stand for: all users stay, and all mailboxes but one of an id.
+pub record KeepsOthers (id : ℕ) (t after : TableRows) : Type 0 where
+  pub users : after.heads.users ≡ t.heads.users
+  pub mailboxes : (other : ℕ) → (id == other) ≡ false → row_at mailbox_key (number_key other) after.heads.mailboxes ≡ row_at mailbox_key (number_key other) t.heads.mailboxes

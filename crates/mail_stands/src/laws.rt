@@ -1,24 +1,27 @@
 //! Laws of what tables stand for, each the contract of a function that does nothing.
 
-ghost use Rattle.std.specs.Prelude.{◌≡◌, ◌+◌, ℕ, List, None, length, map};
+ghost use Rattle.std.specs.Prelude.{◌≡◌, ◌+◌, ℕ, List, None, Some, length};
 ghost use Rattle.std.specs.Option.{option_map};
 ghost use Rattle.ordered_rows.specs.RowKey.{number_key};
 ghost use Rattle.ordered_rows.specs.Listed.{row_at};
 ghost use Rattle.row_tables.specs.Keys.{mailbox_key, user_key};
 ghost use Rattle.row_tables.specs.Names as names;
 ghost use Rattle.row_tables.specs.TableRows.{TableRows, no_rows};
+ghost use Rattle.row_tables.specs.References.{AreClosed, HasMailbox, HasUser};
+ghost use Rattle.row_tables.specs.declared.heads.Mailbox.{Mailbox as Head};
 ghost use Rattle.row_tables.specs.Fits.{CanRun, IsText, Runs};
 ghost use Rattle.row_tables.specs.declared.contents.BodyPart.{BodyPart};
 ghost use Rattle.mail_world.specs.Worlds.{World, mailbox_at, mailbox_named, no_world, user_at};
-ghost use Rattle.mail_world.specs.Changes.{AddUser};
+ghost use Rattle.mail_world.specs.Names.{created_name, mailbox_name};
+ghost use Rattle.mail_world.specs.Changes.{AddUser, Create, Delete, TakeRecents};
 ghost use Rattle.mail_world.specs.Applying.{apply, refused};
 ghost use Rattle.mail_stands.specs.Stands.{Stands};
-ghost use Rattle.mail_stands.specs.Leading.{KeepsOwners, Leads};
+ghost use Rattle.mail_stands.specs.Leading.{KeepsOthers, KeepsOwners, Leads};
 ghost use Rattle.mail_stands.specs.Refusals as refusals;
-ghost use Rattle.mail_stands.specs.RowChanges.{add_user_changes};
+ghost use Rattle.mail_stands.specs.RowChanges.{add_user_changes, create_changes, delete_changes, recents_changes};
 
 use mail_world::stores_stay_legal;
-use ordered_rows::laws::{insertion, keys};
+use ordered_rows::laws::{insertion, keys, row_after_remove, row_after_replace};
 use row_tables::{Mailbox, User};
 
 /// Tables as they are made stand for the store as it is made.
@@ -58,5 +61,53 @@ pub fn add_user()
     keys();
     insertion::<User>();
     insertion::<Mailbox>();
+    stores_stay_legal();
+}
+
+/// A mailbox that a user makes. Over any tables the rows can be inserted where the user is there and the id is new, and no mailbox
+/// goes to another owner.
+pub fn create()
+    ensures refusal { (content : BodyPart → List ℕ) (t : TableRows) (world : World) (owner : ℕ) (name : List ℕ) → Stands content t world
+        → refusals.create_refused t owner (created_name name) ≡ refused world (Create owner name) }
+    ensures leads { (content : BodyPart → List ℕ) (t : TableRows) (world : World) (owner : ℕ) (name : List ℕ) → Stands content t world → HasUser t owner
+        → refusals.create_refused t owner (created_name name) ≡ None → Leads content t (create_changes t owner (created_name name)) (apply world (Create owner name)) }
+    ensures fit { (t : TableRows) (owner : ℕ) (name : List ℕ) → IsText name → HasUser t owner
+        → row_at mailbox_key (number_key t.heads.counters.next) t.heads.mailboxes ≡ None → CanRun t (create_changes t owner name) }
+    ensures owners { (t after : TableRows) (owner : ℕ) (name : List ℕ) → Runs t (create_changes t owner name) after → KeepsOwners t after }
+{
+    keys();
+    insertion::<Mailbox>();
+    stores_stay_legal();
+}
+
+/// The recent messages of a mailbox, which a session takes. Over any tables the row can be replaced, and its owner stays.
+pub fn take_recents()
+    ensures refusal { (content : BodyPart → List ℕ) (t : TableRows) (world : World) (id : ℕ) → Stands content t world
+        → refusals.recents_refused t id ≡ refused world (TakeRecents id) }
+    ensures leads { (content : BodyPart → List ℕ) (t : TableRows) (world : World) (id : ℕ) (row : Head) → AreClosed t → Stands content t world
+        → row_at mailbox_key (number_key id) t.heads.mailboxes ≡ Some row → Leads content t (recents_changes row) (apply world (TakeRecents id)) }
+    ensures fit { (t : TableRows) (id : ℕ) (row : Head) → AreClosed t → IsText row.name
+        → row_at mailbox_key (number_key id) t.heads.mailboxes ≡ Some row → CanRun t (recents_changes row) }
+    ensures owners { (t after : TableRows) (id : ℕ) (row : Head) → row_at mailbox_key (number_key id) t.heads.mailboxes ≡ Some row
+        → Runs t (recents_changes row) after → KeepsOwners t after }
+{
+    keys();
+    row_after_replace::<Mailbox>();
+    stores_stay_legal();
+}
+
+/// A mailbox that its user deletes. Over any tables the row can be removed with all rows of the mailbox, and all users and all other
+/// mailboxes stay.
+pub fn delete()
+    ensures refusal { (content : BodyPart → List ℕ) (t : TableRows) (world : World) (owner : ℕ) (name held : List ℕ) → Stands content t world
+        → refusals.delete_refused t owner (mailbox_name name) held ≡ refused world (Delete owner name held) }
+    ensures leads { (content : BodyPart → List ℕ) (t : TableRows) (world : World) (owner : ℕ) (name held : List ℕ) (row : Head) → Stands content t world
+        → names.mailbox_named owner (mailbox_name name) t.heads.mailboxes ≡ Some row → refusals.delete_refused t owner (mailbox_name name) held ≡ None
+        → Leads content t (delete_changes row) (apply world (Delete owner name held)) }
+    ensures fit { (t : TableRows) (row : Head) → HasMailbox t row.id → CanRun t (delete_changes row) }
+    ensures others { (t after : TableRows) (row : Head) → Runs t (delete_changes row) after → KeepsOthers row.id t after }
+{
+    keys();
+    row_after_remove::<Mailbox>();
     stores_stay_legal();
 }

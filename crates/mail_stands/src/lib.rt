@@ -8,4 +8,4 @@
 
 mod laws;
 
-pub use laws::{add_user, mailbox_rows, no_rows_stand, user_rows};
+pub use laws::{add_user, create, delete, mailbox_rows, no_rows_stand, take_recents, user_rows};
