@@ -7,4 +7,5 @@ mod Making
 mod Owners
 mod Heading
 mod Deleting
+mod Subscribing
 mod Examples

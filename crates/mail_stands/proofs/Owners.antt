@@ -31,7 +31,7 @@ pub there_as : {X P : Type 0} (o : Option X) → IsSome o → ((x : X) → o ≡
 there_as None there use_it = absurd (false≢true there)
 there_as (Some x) there use_it = use_it x refl
 
-has_owner : (o : Option Head) (row : Head) → o ≡ Some row → IsSomeAnd o (λ now. now.owner ≡ row.owner)
+pub has_owner : (o : Option Head) (row : Head) → o ≡ Some row → IsSomeAnd o (λ now. now.owner ≡ row.owner)
 has_owner o row e = subst (λ p. IsSomeAnd p (λ now. now.owner ≡ row.owner)) (sym e) refl
 
 pub create_keeps : SameKeys → InsertLaws mailbox_key → (t after : TableRows) (owner : ℕ) (name : List ℕ) → Runs t (create_changes t owner name) after → KeepsOwners t after

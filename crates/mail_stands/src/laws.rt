@@ -7,18 +7,18 @@ ghost use Rattle.ordered_rows.specs.Listed.{row_at};
 ghost use Rattle.row_tables.specs.Keys.{mailbox_key, user_key};
 ghost use Rattle.row_tables.specs.Names as names;
 ghost use Rattle.row_tables.specs.TableRows.{TableRows, no_rows};
-ghost use Rattle.row_tables.specs.References.{AreClosed, HasMailbox, HasUser};
+ghost use Rattle.row_tables.specs.References.{AreClosed, HasMailbox, HasSubscription, HasUser};
 ghost use Rattle.row_tables.specs.declared.heads.Mailbox.{Mailbox as Head};
 ghost use Rattle.row_tables.specs.Fits.{CanRun, IsText, Runs};
 ghost use Rattle.row_tables.specs.declared.contents.BodyPart.{BodyPart};
 ghost use Rattle.mail_world.specs.Worlds.{World, mailbox_at, mailbox_named, no_world, user_at};
 ghost use Rattle.mail_world.specs.Names.{created_name, mailbox_name};
-ghost use Rattle.mail_world.specs.Changes.{AddUser, Create, Delete, TakeRecents};
+ghost use Rattle.mail_world.specs.Changes.{AddUser, Create, Delete, Subscribe, TakeRecents, Unsubscribe};
 ghost use Rattle.mail_world.specs.Applying.{apply, refused};
 ghost use Rattle.mail_stands.specs.Stands.{Stands};
 ghost use Rattle.mail_stands.specs.Leading.{KeepsOthers, KeepsOwners, Leads};
 ghost use Rattle.mail_stands.specs.Refusals as refusals;
-ghost use Rattle.mail_stands.specs.RowChanges.{add_user_changes, create_changes, delete_changes, recents_changes};
+ghost use Rattle.mail_stands.specs.RowChanges.{add_user_changes, create_changes, delete_changes, recents_changes, subscribe_changes, unsubscribe_changes};
 
 use mail_world::stores_stay_legal;
 use ordered_rows::laws::{insertion, keys, row_after_remove, row_after_replace};
@@ -109,5 +109,32 @@ pub fn delete()
 {
     keys();
     row_after_remove::<Mailbox>();
+    stores_stay_legal();
+}
+
+/// A name of a mailbox that a user subscribes; nothing changes where it was subscribed. Over any tables the row can be inserted where
+/// the user is there, and no mailbox goes to another owner.
+pub fn subscribe()
+    ensures refusal { (content : BodyPart → List ℕ) (t : TableRows) (world : World) (owner : ℕ) (name : List ℕ) → Stands content t world
+        → refusals.subscribe_refused t owner (mailbox_name name) ≡ refused world (Subscribe owner name) }
+    ensures leads { (content : BodyPart → List ℕ) (t : TableRows) (world : World) (owner : ℕ) (name : List ℕ) → AreClosed t → Stands content t world
+        → refusals.subscribe_refused t owner (mailbox_name name) ≡ None
+        → Leads content t (subscribe_changes t owner (mailbox_name name)) (apply world (Subscribe owner name)) }
+    ensures fit { (t : TableRows) (owner : ℕ) (name : List ℕ) → IsText name → HasUser t owner → CanRun t (subscribe_changes t owner name) }
+    ensures owners { (t after : TableRows) (owner : ℕ) (name : List ℕ) → Runs t (subscribe_changes t owner name) after → KeepsOwners t after }
+{
+    stores_stay_legal();
+}
+
+/// A name that a user unsubscribes. Over any tables the row can be removed where it is there, and no mailbox goes to another owner.
+pub fn unsubscribe()
+    ensures refusal { (content : BodyPart → List ℕ) (t : TableRows) (world : World) (owner : ℕ) (name : List ℕ) → Stands content t world
+        → refusals.unsubscribe_refused t owner (mailbox_name name) ≡ refused world (Unsubscribe owner name) }
+    ensures leads { (content : BodyPart → List ℕ) (t : TableRows) (world : World) (owner : ℕ) (name : List ℕ) → Stands content t world
+        → refusals.unsubscribe_refused t owner (mailbox_name name) ≡ None
+        → Leads content t (unsubscribe_changes owner (mailbox_name name)) (apply world (Unsubscribe owner name)) }
+    ensures fit { (t : TableRows) (owner : ℕ) (name : List ℕ) → IsText name → HasSubscription t owner name → CanRun t (unsubscribe_changes owner name) }
+    ensures owners { (t after : TableRows) (owner : ℕ) (name : List ℕ) → Runs t (unsubscribe_changes owner name) after → KeepsOwners t after }
+{
     stores_stay_legal();
 }

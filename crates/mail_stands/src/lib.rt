@@ -8,4 +8,7 @@
 
 mod laws;
 
-pub use laws::{add_user, create, delete, mailbox_rows, no_rows_stand, take_recents, user_rows};
+pub use laws::{
+    add_user, create, delete, mailbox_rows, no_rows_stand, subscribe, take_recents, unsubscribe,
+    user_rows,
+};
