@@ -8,4 +8,6 @@ mod Owners
 mod Heading
 mod Deleting
 mod Subscribing
+mod FlagTexts
+mod OneWorld
 mod Examples

@@ -17,11 +17,13 @@ ghost use Rattle.mail_world.specs.Changes.{AddUser, Create, Delete, Subscribe, T
 ghost use Rattle.mail_world.specs.Applying.{apply, refused};
 ghost use Rattle.mail_stands.specs.Stands.{Stands};
 ghost use Rattle.mail_stands.specs.Leading.{KeepsOthers, KeepsOwners, Leads};
+ghost use Rattle.mail_stands.specs.Sameness.{IsSameWorld};
 ghost use Rattle.mail_stands.specs.Refusals as refusals;
 ghost use Rattle.mail_stands.specs.RowChanges.{add_user_changes, create_changes, delete_changes, recents_changes, subscribe_changes, unsubscribe_changes};
 
 use mail_world::stores_stay_legal;
 use ordered_rows::laws::{insertion, keys, row_after_remove, row_after_replace};
+use rebuilder::law_one_mail;
 use row_tables::{Mailbox, User};
 
 /// Tables as they are made stand for the store as it is made.
@@ -137,4 +139,11 @@ pub fn unsubscribe()
     ensures owners { (t after : TableRows) (owner : ℕ) (name : List ℕ) → Runs t (unsubscribe_changes owner name) after → KeepsOwners t after }
 {
     stores_stay_legal();
+}
+
+/// Tables stand for one world, up to the order of the flags of a message.
+pub fn one_world()
+    ensures { (content : BodyPart → List ℕ) (t : TableRows) (a b : World) → Stands content t a → Stands content t b → IsSameWorld a b }
+{
+    law_one_mail();
 }

@@ -9,6 +9,6 @@
 mod laws;
 
 pub use laws::{
-    add_user, create, delete, mailbox_rows, no_rows_stand, subscribe, take_recents, unsubscribe,
-    user_rows,
+    add_user, create, delete, mailbox_rows, no_rows_stand, one_world, subscribe, take_recents,
+    unsubscribe, user_rows,
 };
