@@ -10,4 +10,6 @@ mod Deleting
 mod Subscribing
 mod FlagTexts
 mod OneWorld
+mod Naming
+mod Written
 mod Examples

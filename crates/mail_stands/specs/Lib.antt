@@ -4,5 +4,6 @@ pub mod Stands
 pub mod Leading
 pub mod Refusals
 pub mod RowChanges
+pub mod Naming
 pub mod Arriving
 pub mod Sameness

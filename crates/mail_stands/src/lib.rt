@@ -2,12 +2,14 @@
 //! standing for the world after a change.
 //!
 //! There is no code here but functions whose contracts are laws of the definitions, which stand in `specs/`: `Stands` says what tables
-//! stand for, `Refusals` why a change is not made as the tables tell it, `RowChanges` and `Arriving` which rows make a change,
-//! `Leading` what they lead to, `Sameness` how far tables tell worlds apart.
+//! stand for, `Refusals` why a change is not made as the tables tell it, `RowChanges`, `Naming` and `Arriving` which rows make a
+//! change, `Leading` what they lead to, `Sameness` how far tables tell worlds apart.
 #![tactic(auto)]
 
+mod arriving;
 mod laws;
 
+pub use arriving::names_grow;
 pub use laws::{
     add_user, create, delete, mailbox_rows, no_rows_stand, one_world, subscribe, take_recents,
     unsubscribe, user_rows,
