@@ -12,4 +12,9 @@ mod FlagTexts
 mod OneWorld
 mod Naming
 mod Written
+mod Counting
+mod Staying
+mod Flags
+mod Arrivals
+mod Appending
 mod Examples

@@ -52,7 +52,7 @@ pub record Replaces : Type 0 where
   pub same : (row : Head) (rows : List Head) → IsSome (row_at mailbox_key (mailbox_key row) rows) → row_at mailbox_key (mailbox_key row) (with_replaced mailbox_key row rows) ≡ Some row
   pub other : (row : Head) (k : RowKey) (rows : List Head) → same_key (mailbox_key row) k ≡ false → row_at mailbox_key k (with_replaced mailbox_key row rows) ≡ row_at mailbox_key k rows
 
-replaced_owner : SameKeys → Replaces → (rows : List Head) (id : ℕ) (row new : Head) → new.id ≡ id → new.owner ≡ row.owner → row_at mailbox_key (number_key id) rows ≡ Some row
+pub replaced_owner : SameKeys → Replaces → (rows : List Head) (id : ℕ) (row new : Head) → new.id ≡ id → new.owner ≡ row.owner → row_at mailbox_key (number_key id) rows ≡ Some row
     → (other : ℕ) (r : Head) → row_at mailbox_key (number_key other) rows ≡ Some r → IsSomeAnd (row_at mailbox_key (number_key other) (with_replaced mailbox_key new rows)) (λ now. now.owner ≡ r.owner)
 replaced_owner same laws rows id row new is owner found other r at = by (same_key (mailbox_key new) (number_key other)) refl
   where

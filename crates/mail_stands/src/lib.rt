@@ -9,7 +9,7 @@
 mod arriving;
 mod laws;
 
-pub use arriving::names_grow;
+pub use arriving::{append, message_uids, names_grow};
 pub use laws::{
     add_user, create, delete, mailbox_rows, no_rows_stand, one_world, subscribe, take_recents,
     unsubscribe, user_rows,
