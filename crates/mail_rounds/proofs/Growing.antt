@@ -17,7 +17,7 @@ use Rattle.mail_rounds.specs.declared.shared.Core.{Core}
 use Rattle.mail_rounds.specs.declared.link.Link.{Link}
 use Rattle.mail_rounds.specs.Core.{IsShared}
 use Rattle.mail_rounds.specs.Calls.{Grows, Asks, AsksIdle, ReadsOnce, read_room}
-use Rattle.mail_rounds.specs.Held.{session_of}
+use Rattle.mail_rounds.specs.Held.{session_of, due_of, AtLink}
 use Rattle.mail_rounds.specs.Heard.{Hears, Offered, IsTaking}
 
 pub grows_one : (Calls : List PortCall → List PortCall → Type 0) (call : PortCall) (old new : Option (List PortCall)) → Records call old new
@@ -131,16 +131,16 @@ offered_lost core link core' link' old new recorded q s left =
     })
 
 -- A link that is open and has nothing to send was read once.
-asks_idle : (standing : Standing) (number : ℕ) (queue : List ℕ) (old new : Option (List PortCall)) → is_open standing ≡ true → queue ≡ []
-    → Grows (ReadsOnce number) old new → AsksIdle standing number queue old new
-asks_idle Open number [] old new o q h = h
-asks_idle Open number (byte ∷ queue) old new o q h = cc
-asks_idle Closing number queue old new o q h = cc
+asks-idle : (standing : Standing) (number : ℕ) (queue : List ℕ) (before later : List PortCall) → is_open standing ≡ true → queue ≡ [] → ReadsOnce number before later
+    → AsksIdle standing number queue before later
+asks-idle Open number [] before later o q h = h
+asks-idle Open number (byte ∷ queue) before later o q h = cc
+asks-idle Closing number queue before later o q h = cc
 
 -- the calls that gave a piece
 pub asks_bytes : (link : Link) (piece : List ℕ) (reading room : ℕ) (old mid new : Option (List PortCall)) → room ≡ read_room
-    → Records (Read link.number room (Gave piece)) old mid → Records (Now reading) mid new → is_open link.standing ≡ true → link.queue.items ≡ [] → Asks link old new
+    → Records (Read link.number room (Gave piece)) old mid → Records (Now reading) mid new → is_open link.standing ≡ true → link.queue.items ≡ [] → AtLink Asks link old new
 asks_bytes link piece reading room old mid new r one two o q =
-    asks_idle link.standing link.number link.queue.items old new o q
-    (grows_two (ReadsOnce link.number) (Read link.number room (Gave piece)) (Now reading) old mid new one two
-    (λ before. (Gave piece, reading, ap (λ (v : ℕ). Now reading ∷ Read link.number v (Gave piece) ∷ before) r)))
+    grows_two (Asks (due_of link)) (Read link.number room (Gave piece)) (Now reading) old mid new one two
+    (λ before. asks-idle link.standing link.number link.queue.items before (Now reading ∷ Read link.number room (Gave piece) ∷ before) o q
+    (Gave piece, reading, ap (λ (v : ℕ). Now reading ∷ Read link.number v (Gave piece) ∷ before) r))

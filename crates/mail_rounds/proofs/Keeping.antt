@@ -20,8 +20,8 @@ use Rattle.mail_rounds.specs.declared.link.Link.{Link}
 use Rattle.mail_rounds.specs.Core.{IsShared, IsStep}
 use Rattle.mail_rounds.specs.Held.{Held, session_of, queue_of, Ascending}
 use Rattle.mail_rounds.specs.Heard.{IsOfLink, IsLossOf, and_event, acts, IsTaking, Hears, Offered}
-use Rattle.mail_rounds.specs.Serves.{is_kept, is_loss, is_lost, Answered, OpenAreKept, Serves, Keeps, IsGreeted, Opens}
-use Rattle.mail_rounds.specs.Calls.{Grows}
+use Rattle.mail_rounds.specs.Serves.{Answered, OpenAreKept, Serves, Keeps, IsGreeted, Opens}
+use Rattle.mail_rounds.specs.Calls.{Grows, is_kept, is_loss, is_lost}
 use Rattle.mail_rounds.proofs.Kept.{apart, same, ascending-within, ascending-here, ascending-becomes, ascending-without, ascending-more, queue-past, queue-here, queue-other, queue-without, queue-gone, queue-more, at-here, becomes-here, at-other, at-becomes, at-more-other, at-kept, found-kept, becomes-kept, kept-same, open_kept-same, open_kept-becomes, open_kept-more, at_once-kept, at_once-links, kept-closing, without-here, open_kept-closing, split-at, set-at, sessions-same}
 
 cases : {A : Type 0} (a b : ℕ) → (a ≡ b → A) → (a ≢ b → A) → A

@@ -9,7 +9,8 @@ use Rattle.port_model.specs.History.{is_closed}
 use Rattle.mail_model.specs.Machine.{Session, is_open, session_at, becomes, at_once}
 use Rattle.mail_rounds.specs.declared.link.Link.{Link}
 use Rattle.mail_rounds.specs.Held.{session_of, queue_of, Ascending}
-use Rattle.mail_rounds.specs.Serves.{is_kept, OpenAreKept}
+use Rattle.mail_rounds.specs.Calls.{is_kept}
+use Rattle.mail_rounds.specs.Serves.{OpenAreKept}
 
 -- Numbers.
 

@@ -3,3 +3,4 @@ pub mod Growing
 pub mod Kept
 pub mod Keeping
 pub mod Chains
+pub mod Making

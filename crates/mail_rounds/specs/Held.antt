@@ -1,10 +1,12 @@
 -- What a server holds, over plain values.
-use Rattle.std.specs.Prelude.{ℕ, ◌<◌, ◌≤◌, ◌==◌, List, [], ◌∷◌, if◌then◌else◌}
+use Rattle.std.specs.Prelude.{ℕ, ◌<◌, ◌≤◌, ◌==◌, List, [], ◌∷◌, Option, if◌then◌else◌}
+use Rattle.port_model.specs.declared.calls.PortCall.{PortCall}
 use Rattle.mail_model.specs.Machine.{Made, Session, Taking}
 use Rattle.mail_model.specs.Step.{Shared}
 use Rattle.mail_rounds.specs.declared.shared.Core.{Core}
 use Rattle.mail_rounds.specs.declared.link.Link.{Link}
 use Rattle.mail_rounds.specs.declared.server.Server.{Server}
+use Rattle.mail_rounds.specs.Calls.{Due, Grows}
 
 -- The core, the links that aren't closed, and the number of the latest one.
 pub record Held : Type 0 where
@@ -18,6 +20,14 @@ held server = record { core = server.core; links = server.links.items; last = se
 -- the session of a link
 abbrev pub session_of : Link → Session
 session_of link = record { number = link.number; standing = link.standing; form = link.lexer.form; rest = link.lexer.bytes }
+
+-- what is due to the session of a link
+abbrev pub due_of : Link → Due
+due_of link = record { number = link.number; standing = link.standing; unsent = link.queue.items }
+
+-- The calls for a link are these for what is due to its session.
+abbrev pub AtLink : (Due → List PortCall → List PortCall → Type 0) → Link → Option (List PortCall) → Option (List PortCall) → Type 0
+AtLink Calls link old new = Grows (Calls (due_of link)) old new
 
 -- a link's session with what is shared, and its queue as what it is answered, where these changes were made
 abbrev pub taking_in : Shared → Link → List Made → Taking

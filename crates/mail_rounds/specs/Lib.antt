@@ -1,6 +1,6 @@
 pub mod Core
 pub mod Commands
-pub mod Held
 pub mod Calls
+pub mod Held
 pub mod Serves
 pub mod Heard

@@ -1,32 +1,15 @@
 -- The relation between a server and the machine, and what keeps it.
-use Rattle.std.specs.Prelude.{ℕ, ◌≡◌, ◌<◌, ◌==◌, ◌||◌, not, Bool, true, false, List, [], ◌∷◌, ◌++◌, Option, Some, None, map, filter, length}
+use Rattle.std.specs.Prelude.{ℕ, ◌≡◌, ◌<◌, Bool, true, false, List, [], ◌∷◌, ◌++◌, Option, Some, None, map, filter}
 use Rattle.port_model.specs.declared.calls.Kind.{Kind}
 use Rattle.port_model.specs.declared.calls.PortCall.{PortCall}
-use Rattle.port_model.specs.History.{PortEvent, Opened, Piece, Ended, Lost, events, sent, is_closed}
-use Rattle.port_model.specs.Chain.{Chain}
+use Rattle.port_model.specs.History.{events, sent, is_closed}
 use Rattle.mail_model.specs.Step.{World, Shared, Stepped, after_step, greeting}
 use Rattle.mail_model.specs.Machine.{Session, is_open, session_at, after, at_once, standing_after}
 use Rattle.mail_rounds.specs.declared.link.Link.{Link}
 use Rattle.mail_rounds.specs.declared.shared.Core.{Core}
 use Rattle.mail_rounds.specs.Core.{IsShared}
 use Rattle.mail_rounds.specs.Held.{Held, session_of, queue_of, Ascending}
-use Rattle.mail_rounds.specs.Calls.{Offers, Closes, TakesCalls}
-
--- whether a session's link is not closed
-abbrev pub is_kept : List PortCall → Session → Bool
-is_kept history session = not (is_closed history session.number)
-
--- whether an event is that the link of a number is lost
-abbrev pub is_loss : ℕ → PortEvent → Bool
-is_loss number (Opened who kind) = false
-is_loss number (Piece who piece moment) = false
-is_loss number (Ended who) = false
-is_loss number (Lost who) = who == number
-
--- whether the link of a number was lost by one of some events
-abbrev pub is_lost : ℕ → List PortEvent → Bool
-is_lost number [] = false
-is_lost number (event ∷ older) = is_loss number event || is_lost number older
+use Rattle.mail_rounds.specs.Calls.{Grows, is_kept, is_lost}
 
 -- What was sent, with what is still to be sent, is what the machine answered. By a lost link its front was sent, and
 -- nothing is still to be sent.
@@ -63,31 +46,9 @@ Serving first (Some history) held = Serves first history held
 abbrev pub Keeps : Option (List PortCall) → Held → Option (List PortCall) → Held → Type 0
 Keeps old before new later = (first : World) → Serving first old before → Serving first new later
 
--- The calls of `flush`: every link with a queue is offered it, and then those that aren't open and have nothing to send
--- any more are closed, each in the order of the numbers.
-pub record FlushCalls (before : Held) (old new : Option (List PortCall)) : Type 0 where
-  pub offered : Held
-  pub mid : Option (List PortCall)
-  pub offers : Chain Offers before.links old mid
-  pub keeps : Keeps old before mid offered
-  pub closes : Chain Closes offered.links mid new
-
--- The calls of a round: those of `flush`, and then those of `take` on what the server holds then.
-pub record RoundCalls (before : Held) (old new : Option (List PortCall)) : Type 0 where
-  pub flushed : Held
-  pub mid : Option (List PortCall)
-  pub flush : FlushCalls before old mid
-  pub keeps : Keeps old before mid flushed
-  pub takes : TakesCalls (length flushed.links) flushed mid new
-
--- The calls of a round as far as it came: those of `flush`, and a part of those of `take` from the front.
-pub record RoundPart (before : Held) (old new : Option (List PortCall)) : Type 0 where
-  pub flushed : Held
-  pub mid : Option (List PortCall)
-  pub flush : FlushCalls before old mid
-  pub keeps : Keeps old before mid flushed
-  pub asked : ℕ
-  pub takes : TakesCalls asked flushed mid new
+-- Where the server held what the machine had after the old history, that grew by such calls.
+abbrev pub Makes : (World → List PortCall → List PortCall → Type 0) → Option (List PortCall) → Held → Option (List PortCall) → Type 0
+Makes Calls old before new = (first : World) → Serving first old before → Grows (Calls first) old new
 
 -- what a greeting leaves of the core and the new link
 pub record IsGreeted (core : Core) (link : Link) (shared : Shared) (number : ℕ) (greeted : Stepped) : Type 0 where

@@ -8,6 +8,7 @@ ghost use Rattle.mail_model.specs.Step.{World, step, Shared};
 ghost use Rattle.mail_model.specs.Machine.{Taking, go_ahead, take_byte, take_piece};
 ghost use Rattle.mail_rounds.specs.Core.{IsShared};
 ghost use Rattle.mail_rounds.specs.Calls.{Grows, Asks, read_room};
+ghost use Rattle.mail_rounds.specs.Held.{AtLink};
 ghost use Rattle.mail_rounds.specs.Heard.{Hears, IsTaking, AfterStep};
 
 use crate::ending::{end_session, settle};
@@ -115,7 +116,7 @@ pub(crate) fn hear<P: Ports>(
     ensures plan { P.plan ports.new ≡ P.plan ports.old }
     ensures counts { NeverFall (P.listen_faults ports.old) (P.link_faults ports.old) (P.listen_faults ports.new) (P.link_faults ports.new) }
     ensures quiet { P.listen_faults ports.new ≡ P.listen_faults ports.old }
-    ensures calls { Asks link.old (P.history ports.old) (P.history ports.new) }
+    ensures calls { AtLink Asks link.old (P.history ports.old) (P.history ports.new) }
     ensures hears { OnOk result (Grows (Hears core.old link.old core.new link.new) (P.history ports.old) (P.history ports.new)) }
     ensures number { link.new.number ≡ link.old.number }
 {

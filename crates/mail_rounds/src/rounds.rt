@@ -8,9 +8,9 @@ ghost use Rattle.mail_model.specs.Step.{World, Shared};
 ghost use Rattle.mail_model.specs.Machine.{is_open};
 ghost use Rattle.mail_rounds.specs.declared.rounds.RoundFault.TheVariants.{NoMemory as RoundNoMemory};
 ghost use Rattle.mail_rounds.specs.Core.{IsShared};
-ghost use Rattle.mail_rounds.specs.Held.{held, Held};
-ghost use Rattle.mail_rounds.specs.Calls.{Offers, Asks, Closes, Accepts, TakesCalls};
-ghost use Rattle.mail_rounds.specs.Serves.{Keeps, Serves, FlushCalls, RoundCalls, RoundPart, Opens};
+ghost use Rattle.mail_rounds.specs.Held.{held, Held, AtLink};
+ghost use Rattle.mail_rounds.specs.Calls.{Grows, Offers, Asks, Closes, Accepts, Flushes, TakesSome, Takes, RoundsSome, Rounds};
+ghost use Rattle.mail_rounds.specs.Serves.{Keeps, Makes, Serves, Opens};
 
 use crate::ending::settle;
 use crate::hearing::hear;
@@ -168,7 +168,7 @@ impl<D> Server<D> {
         ensures plan { P.plan ports.new ≡ P.plan ports.old }
         ensures counts { NeverFall (P.listen_faults ports.old) (P.link_faults ports.old) (P.listen_faults ports.new) (P.link_faults ports.new) }
         ensures quiet { P.listen_faults ports.new ≡ P.listen_faults ports.old }
-        ensures calls { IfSome (slice_get self.old.links.items i) (λ link. Offers link (P.history ports.old) (P.history ports.new)) }
+        ensures calls { IfSome (slice_get self.old.links.items i) (λ link. AtLink Offers link (P.history ports.old) (P.history ports.new)) }
         ensures keeps { Keeps (P.history ports.old) (held self.old) (P.history ports.new) (held self.new) }
         ensures others { (k : ℕ) → k ≢ i → slice_get self.new.links.items k ≡ slice_get self.old.links.items k }
         ensures count { length self.new.links.items ≡ length self.old.links.items }
@@ -184,7 +184,7 @@ impl<D> Server<D> {
         ensures plan { P.plan ports.new ≡ P.plan ports.old }
         ensures counts { NeverFall (P.listen_faults ports.old) (P.link_faults ports.old) (P.listen_faults ports.new) (P.link_faults ports.new) }
         ensures quiet { P.listen_faults ports.new ≡ P.listen_faults ports.old }
-        ensures calls { Chain Offers self.old.links.items (P.history ports.old) (P.history ports.new) }
+        ensures calls { Chain (AtLink Offers) self.old.links.items (P.history ports.old) (P.history ports.new) }
         ensures keeps { Keeps (P.history ports.old) (held self.old) (P.history ports.new) (held self.new) }
         ensures files { self.new.files ≡ self.old.files }
         ensures spent { self.new.spent ≡ self.old.spent }
@@ -200,7 +200,7 @@ impl<D> Server<D> {
         ensures plan { P.plan ports.new ≡ P.plan ports.old }
         ensures counts { NeverFall (P.listen_faults ports.old) (P.link_faults ports.old) (P.listen_faults ports.new) (P.link_faults ports.new) }
         ensures quiet { P.listen_faults ports.new ≡ P.listen_faults ports.old }
-        ensures calls { IfSome (slice_get self.old.links.items i) (λ link. Closes link (P.history ports.old) (P.history ports.new)) }
+        ensures calls { IfSome (slice_get self.old.links.items i) (λ link. AtLink Closes link (P.history ports.old) (P.history ports.new)) }
         ensures keeps { Keeps (P.history ports.old) (held self.old) (P.history ports.new) (held self.new) }
         ensures rest { drop result self.new.links.items ≡ drop (i + 1) self.old.links.items }
         ensures within { (result ≤ length self.new.links.items) × (length self.new.links.items ≤ length self.old.links.items) }
@@ -228,7 +228,7 @@ impl<D> Server<D> {
         ensures plan { P.plan ports.new ≡ P.plan ports.old }
         ensures counts { NeverFall (P.listen_faults ports.old) (P.link_faults ports.old) (P.listen_faults ports.new) (P.link_faults ports.new) }
         ensures quiet { P.listen_faults ports.new ≡ P.listen_faults ports.old }
-        ensures calls { Chain Closes self.old.links.items (P.history ports.old) (P.history ports.new) }
+        ensures calls { Chain (AtLink Closes) self.old.links.items (P.history ports.old) (P.history ports.new) }
         ensures keeps { Keeps (P.history ports.old) (held self.old) (P.history ports.new) (held self.new) }
         ensures files { self.new.files ≡ self.old.files }
         ensures spent { self.new.spent ≡ self.old.spent }
@@ -246,7 +246,7 @@ impl<D> Server<D> {
         ensures plan { P.plan ports.new ≡ P.plan ports.old }
         ensures counts { NeverFall (P.listen_faults ports.old) (P.link_faults ports.old) (P.listen_faults ports.new) (P.link_faults ports.new) }
         ensures quiet { P.listen_faults ports.new ≡ P.listen_faults ports.old }
-        ensures calls { FlushCalls (held self.old) (P.history ports.old) (P.history ports.new) }
+        ensures calls { Makes Flushes (P.history ports.old) (held self.old) (P.history ports.new) }
         ensures keeps { Keeps (P.history ports.old) (held self.old) (P.history ports.new) (held self.new) }
         ensures files { self.new.files ≡ self.old.files }
         ensures spent { self.new.spent ≡ false }
@@ -283,7 +283,7 @@ impl<D> Server<D> {
     fn accept<P: Ports>(&mut self, ports: &mut P) -> Result<(), RoundFault>
         ensures plan { P.plan ports.new ≡ P.plan ports.old }
         ensures counts { NeverFall (P.listen_faults ports.old) (P.link_faults ports.old) (P.listen_faults ports.new) (P.link_faults ports.new) }
-        ensures calls { Accepts self.old.last (P.history ports.old) (P.history ports.new) }
+        ensures calls { Grows (Accepts self.old.last) (P.history ports.old) (P.history ports.new) }
         ensures keeps { OnOk result (Keeps (P.history ports.old) (held self.old) (P.history ports.new) (held self.new)) }
         ensures front { OnOk result (take (length self.old.links.items) self.new.links.items ≡ self.old.links.items) }
         ensures listen { IsErrOf result RoundFault.ListenFault → Rose (P.listen_faults ports.old) (P.listen_faults ports.new) }
@@ -308,7 +308,7 @@ impl<D> Server<D> {
         ensures plan { P.plan ports.new ≡ P.plan ports.old }
         ensures counts { NeverFall (P.listen_faults ports.old) (P.link_faults ports.old) (P.listen_faults ports.new) (P.link_faults ports.new) }
         ensures quiet { P.listen_faults ports.new ≡ P.listen_faults ports.old }
-        ensures calls { IfSome (slice_get self.old.links.items i) (λ link. Asks link (P.history ports.old) (P.history ports.new)) }
+        ensures calls { IfSome (slice_get self.old.links.items i) (λ link. AtLink Asks link (P.history ports.old) (P.history ports.new)) }
         ensures keeps { OnOk result (Keeps (P.history ports.old) (held self.old) (P.history ports.new) (held self.new)) }
         ensures others { (k : ℕ) → k ≢ i → slice_get self.new.links.items k ≡ slice_get self.old.links.items k }
         ensures count { length self.new.links.items ≡ length self.old.links.items }
@@ -324,8 +324,8 @@ impl<D> Server<D> {
         ensures plan { P.plan ports.new ≡ P.plan ports.old }
         ensures counts { NeverFall (P.listen_faults ports.old) (P.link_faults ports.old) (P.listen_faults ports.new) (P.link_faults ports.new) }
         ensures quiet { P.listen_faults ports.new ≡ P.listen_faults ports.old }
-        ensures calls { OnOk result (Chain Asks (take count self.old.links.items) (P.history ports.old) (P.history ports.new)) }
-        ensures part { ((asked : ℕ) × (asked ≤ count) × Chain Asks (take asked self.old.links.items) (P.history ports.old) (P.history ports.new)) }
+        ensures calls { OnOk result (Chain (AtLink Asks) (take count self.old.links.items) (P.history ports.old) (P.history ports.new)) }
+        ensures part { ((asked : ℕ) × (asked ≤ count) × Chain (AtLink Asks) (take asked self.old.links.items) (P.history ports.old) (P.history ports.new)) }
         ensures keeps { OnOk result (Keeps (P.history ports.old) (held self.old) (P.history ports.new) (held self.new)) }
         ensures files { self.new.files ≡ self.old.files }
         ensures spent { self.new.spent ≡ self.old.spent }
@@ -340,8 +340,8 @@ impl<D> Server<D> {
     fn take_events<P: Ports>(&mut self, ports: &mut P) -> Result<(), RoundFault>
         ensures plan { P.plan ports.new ≡ P.plan ports.old }
         ensures counts { NeverFall (P.listen_faults ports.old) (P.link_faults ports.old) (P.listen_faults ports.new) (P.link_faults ports.new) }
-        ensures calls { OnOk result (TakesCalls (length self.old.links.items) (held self.old) (P.history ports.old) (P.history ports.new)) }
-        ensures part { ((asked : ℕ) × TakesCalls asked (held self.old) (P.history ports.old) (P.history ports.new)) }
+        ensures calls { OnOk result (Makes Takes (P.history ports.old) (held self.old) (P.history ports.new)) }
+        ensures part { ((asked : ℕ) × Makes (TakesSome asked) (P.history ports.old) (held self.old) (P.history ports.new)) }
         ensures keeps { OnOk result (Keeps (P.history ports.old) (held self.old) (P.history ports.new) (held self.new)) }
         ensures listen { IsErrOf result RoundFault.ListenFault → Rose (P.listen_faults ports.old) (P.listen_faults ports.new) }
         ensures quiet { (IsErrOf result RoundFault.ListenFault → ⊥) → P.listen_faults ports.new ≡ P.listen_faults ports.old }
@@ -362,8 +362,8 @@ impl<D> Server<D> {
         ensures counts { NeverFall (P.listen_faults ports.old) (P.link_faults ports.old) (P.listen_faults ports.new) (P.link_faults ports.new) }
 
         // The history grew by exactly these calls, and at a fault by a part of them from the front.
-        ensures calls { OnOk result (TakesCalls (length (held self.old).links) (held self.old) (P.history ports.old) (P.history ports.new)) }
-        ensures part { ((asked : ℕ) × TakesCalls asked (held self.old) (P.history ports.old) (P.history ports.new)) }
+        ensures calls { OnOk result (Makes Takes (P.history ports.old) (held self.old) (P.history ports.new)) }
+        ensures part { ((asked : ℕ) × Makes (TakesSome asked) (P.history ports.old) (held self.old) (P.history ports.new)) }
         ensures keeps { OnOk result (Keeps (P.history ports.old) (held self.old) (P.history ports.new) (held self.new)) }
         ensures listen { IsErrOf result RoundFault.ListenFault → Rose (P.listen_faults ports.old) (P.listen_faults ports.new) }
         ensures quiet { (IsErrOf result RoundFault.ListenFault → ⊥) → P.listen_faults ports.new ≡ P.listen_faults ports.old }
@@ -382,8 +382,8 @@ impl<D> Server<D> {
         ensures counts { NeverFall (P.listen_faults ports.old) (P.link_faults ports.old) (P.listen_faults ports.new) (P.link_faults ports.new) }
 
         // The history grew by exactly these calls, and at a fault by a part of them from the front.
-        ensures calls { OnOk result (RoundCalls (held self.old) (P.history ports.old) (P.history ports.new)) }
-        ensures part { RoundPart (held self.old) (P.history ports.old) (P.history ports.new) }
+        ensures calls { OnOk result (Makes Rounds (P.history ports.old) (held self.old) (P.history ports.new)) }
+        ensures part { ((asked : ℕ) × Makes (RoundsSome asked) (P.history ports.old) (held self.old) (P.history ports.new)) }
         ensures keeps { OnOk result (Keeps (P.history ports.old) (held self.old) (P.history ports.new) (held self.new)) }
         ensures listen { IsErrOf result RoundFault.ListenFault → Rose (P.listen_faults ports.old) (P.listen_faults ports.new) }
         ensures quiet { (IsErrOf result RoundFault.ListenFault → ⊥) → P.listen_faults ports.new ≡ P.listen_faults ports.old }

@@ -3,6 +3,7 @@
 ghost use Rattle.std.specs.Prelude.{◌≡◌, List, take, drop, ◌≤◌, length};
 ghost use Rattle.port_model.specs.Ports.{NeverFall};
 ghost use Rattle.mail_rounds.specs.Calls.{Grows, Offers};
+ghost use Rattle.mail_rounds.specs.Held.{AtLink};
 ghost use Rattle.mail_rounds.specs.Heard.{Offered};
 
 use crate::ending::end_session;
@@ -25,7 +26,7 @@ pub(crate) fn offer<P: Ports>(core: &mut Core, link: &mut Link, ports: &mut P)
     ensures plan { P.plan ports.new ≡ P.plan ports.old }
     ensures counts { NeverFall (P.listen_faults ports.old) (P.link_faults ports.old) (P.listen_faults ports.new) (P.link_faults ports.new) }
     ensures quiet { P.listen_faults ports.new ≡ P.listen_faults ports.old }
-    ensures calls { Offers link.old (P.history ports.old) (P.history ports.new) }
+    ensures calls { AtLink Offers link.old (P.history ports.old) (P.history ports.new) }
     ensures offered { Grows (Offered core.old link.old core.new link.new) (P.history ports.old) (P.history ports.new) }
     ensures number { link.new.number ≡ link.old.number }
 {

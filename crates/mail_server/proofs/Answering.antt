@@ -1,5 +1,5 @@
 -- A run over a text ends as the table of its word has it.
-use Rattle.std.proofs.Common.{◌≡◌, ℕ, ◌+◌, ◌≤◌, Bool, true, false, cond, nat_lt, List, length, refl, sym, ◌∙◌, ap, subst, inl, inr}
+use Rattle.std.proofs.Common.{◌≡◌, ℕ, ◌+◌, ◌≤◌, Bool, true, false, nat_lt, List, length, refl, sym, ◌∙◌, subst, inl, inr}
 use Rattle.std.specs.Prelude.{◌⊎◌, Option, Some, None, Result, Ok, Err, IfOk, MatchResult}
 use Rattle.fault_counts.specs.Rose.{Rose}
 use Rattle.disk_model.specs.Told.{Told}
@@ -13,10 +13,10 @@ use Rattle.mail_server.specs.declared.words.Command.{Command}
 use Rattle.mail_server.specs.declared.words.Task.{Task}
 use Rattle.mail_server.specs.declared.words.Task.TheVariants.{Script, Canon}
 use Rattle.mail_server.specs.Does.{EndsRun}
-use Rattle.mail_server.specs.Outside.{Outside, Tells, WritesAll, StopsWriting, EndsWriting}
-use Rattle.mail_server.specs.Run.{End, IsAnswer, TakesMoment, AnswersAt, ReadsUpTo, ReadsSome, ReadsText, IsAtEnd, IsPlayedOut, code_of, limit_of, end_of, end_of_long, end_of_text, end_of_events}
+use Rattle.mail_server.specs.Outside.{Outside, Tells, EndsWriting}
+use Rattle.mail_server.specs.Run.{End, EndsAs, EventsEnd, TextEnds, TakesMoment, AnswersAt, ReadsUpTo, ReadsSome, ReadsText, IsAtEnd, code_of, limit_of, end_of, end_of_long}
 use Rattle.mail_server.specs.Texts.{IsText, TakesText, Answers, StopsAnswering, StopsReading, WantsMemory, ScriptEnds, CanonEnds, AnswersText}
-use Rattle.mail_server.proofs.Readings.{end-read, read-same, short-done}
+use Rattle.mail_server.proofs.Readings.{ends-read, short-done}
 
 -- The statuses that texts give
 
@@ -27,22 +27,25 @@ Fits Canon Done = Unit {0}
 Fits Canon Refused = Unit {0}
 Fits task status = ⊥
 
-end-fits : (task : Task) (text : List ℕ) (now : ℕ) → Fits task (end_of task text now).status
-unfolding end_of
-end-fits task text now = by_length task (nat_lt (limit_of task) (length text))
+end-fits : (task : Task) (text : List ℕ) (now : ℕ) (end : End) → EndsAs task text now end → Fits task end.status
+unfolding EndsAs
+end-fits task text now end ends = by_length task (nat_lt (limit_of task) (length text)) ends
   where
-    of-events : (said : Result (List Event) ℕ) → Fits Script (end_of_events said).status
-    of-events (Ok events) = tt
-    of-events (Err number) = tt
+    at : (task : Task) (end' : End) → end ≡ end' → Fits task end'.status → Fits task end.status
+    at task end' is fits = subst (λ (e : End). Fits task e.status) (sym is) fits
 
-    by_length : (task : Task) (long : Bool) → Fits task (cond long (end_of_long task) (end_of_text task text now)).status
-    by_length Script true = tt
-    by_length Canon true = tt
-    by_length Script false = of-events (script_events text)
-    by_length Canon false = tt
+    of-events : (said : Result (List Event) ℕ) → EventsEnd said end → Fits Script end.status
+    of-events (Ok events) is = subst (Fits Script) (sym is.0) tt
+    of-events (Err number) is = at Script _ is tt
+
+    by_length : (task : Task) (long : Bool) → TextEnds long task text now end → Fits task end.status
+    by_length Script true is = at Script (end_of_long Script) is tt
+    by_length Canon true is = at Canon (end_of_long Canon) is tt
+    by_length Script false is = of-events (script_events text) is
+    by_length Canon false is = at Canon _ is tt
 
 fits : {S K C : Type 0} (tells : Tells S K C) (task : Task) (status : Status) (old new : Outside S K C) → Answers tells task status old new → Fits task status
-fits tells task status old new a = subst (Fits task) (sym a.ends) (end-fits task a.text a.now)
+fits tells task status old new a = subst (Fits task) (sym a.ends) (end-fits task a.text a.now a.end a.said)
 
 -- how the word of a task ends
 abbrev Ends : {S K C : Type 0} → Tells S K C → Task → Status → Outside S K C → Outside S K C → Type 0
@@ -50,8 +53,8 @@ Ends tells Script status old new = ScriptEnds tells status old new
 Ends tells Canon status old new = CanonEnds tells status old new
 
 answers-end : {S K C : Type 0} (tells : Tells S K C) (task : Task) (status : Status) (old new : Outside S K C) (a : Answers tells task status old new)
-    → (status ≡ Done → IsAtEnd (tells.left new.source) × (task ≡ Script → IsPlayedOut a.text)) → Fits task status → Ends tells task status old new
-answers-end tells Script Done old new a end f = (a, (end refl).0, (end refl).1 refl)
+    → (status ≡ Done → IsAtEnd (tells.left new.source)) → Fits task status → Ends tells task status old new
+answers-end tells Script Done old new a end f = (a, end refl)
 answers-end tells Script BadScript old new a end f = a
 answers-end tells Script Usage old new a end f = f
 answers-end tells Script NoMemory old new a end f = absurd f
@@ -60,7 +63,7 @@ answers-end tells Script WriteFault old new a end f = absurd f
 answers-end tells Script StoreFault old new a end f = f
 answers-end tells Script NotAStore old new a end f = f
 answers-end tells Script Refused old new a end f = f
-answers-end tells Canon Done old new a end f = (a, (end refl).0)
+answers-end tells Canon Done old new a end f = (a, end refl)
 answers-end tells Canon Refused old new a end f = a
 answers-end tells Canon Usage old new a end f = f
 answers-end tells Canon NoMemory old new a end f = absurd f
@@ -84,9 +87,9 @@ wants-end tells Canon old new wants = wants
 
 -- The text that a source has, by what was read of it: it ends a run as what was read does.
 whole-text : (task : Task) (bytes : List ℕ) (old new : Option (List ℕ)) → ReadsUpTo (limit_of task) bytes old new
-    → (text : List ℕ) × IsText text old × ((now : ℕ) → end_of task bytes now ≡ end_of task text now) × (length bytes ≤ limit_of task → text ≡ bytes)
-whole-text task bytes None new reads = (bytes, tt, (λ now. refl), (λ le. refl))
-whole-text task bytes (Some all) new reads = (all, refl, (λ now. end-read task all bytes now new reads), read-same (limit_of task) all bytes new reads)
+    → (text : List ℕ) × IsText text old × ((now : ℕ) (end : End) → EndsAs task bytes now end → EndsAs task text now end)
+whole-text task bytes None new reads = (bytes, tt, (λ now end ends. ends))
+whole-text task bytes (Some all) new reads = (all, refl, (λ now end. ends-read task all bytes now end new reads))
 
 -- the tables hold for a task with what is kept however it ends
 of-task : {S K C D : Type 0} (tells : Tells S K C) (task : Task) (status : Status) (old new : Outside S K C) (files files' : Files D)
@@ -103,51 +106,47 @@ pub answered : {S K C D : Type 0} (tells : Tells S K C) (task : Task) (limit : �
     (old new : Outside S K C) (files files' : Files D) → limit ≡ limit_of task → text ≡ bytes → ReadsUpTo limit bytes (tells.left old.source) (tells.left new.source)
     → tells.read_faults new.source ≡ tells.read_faults old.source → AnswersAt tells.readings task text answer old.clock new.clock
     → MatchResult answer (λ answer. EndsWriting tells.written tells.write_faults answer.status answer.lines.items status old.sink new.sink) (λ error. (status ≡ NoMemory) × (new.sink ≡ old.sink))
-    → (task ≡ Script → IfOk answer (λ answer. answer.status ≡ Done → IsPlayedOut text)) → files' ≡ files → AnswersText tells task status old new files files'
-answered {S} {K} {C} tells task limit bytes text {E} answer status old new files files' bound whole read quiet at writes plays same =
-    of-task tells task status old new files files' (ends answer status at.2 writes plays) (record { bytes = bytes; taken = reads.taken; within = reads.within })
+    → files' ≡ files → AnswersText tells task status old new files files'
+answered {S} {K} {C} tells task limit bytes text {E} answer status old new files files' bound whole read quiet at writes same =
+    of-task tells task status old new files files' (ends answer status at.2 writes) (record { bytes = bytes; taken = reads.taken; within = reads.within })
     (script-clock tells.readings task at.0 old.clock new.clock at.1) same
   where
     reads : ReadsUpTo (limit_of task) bytes (tells.left old.source) (tells.left new.source)
     reads = subst (λ (n : ℕ). ReadsUpTo n bytes (tells.left old.source) (tells.left new.source)) bound read
 
-    all : (all : List ℕ) × IsText all (tells.left old.source) × ((now : ℕ) → end_of task bytes now ≡ end_of task all now) × (length bytes ≤ limit_of task → all ≡ bytes)
+    all : (all : List ℕ) × IsText all (tells.left old.source) × ((now : ℕ) (end : End) → EndsAs task bytes now end → EndsAs task all now end)
     all = whole-text task bytes (tells.left old.source) (tells.left new.source) reads
 
     takes : TakesText tells task all.0 at.0 old new
     takes = record { its = all.1; read = (bytes, reads); quiet = quiet; moment = at.1 }
 
-    same-end : end_of task text at.0 ≡ end_of task all.0 at.0
-    same-end = ap (λ (b : List ℕ). end_of task b at.0) whole ∙ all.2 at.0
+    of-read : (end : End) → EndsAs task text at.0 end → EndsAs task bytes at.0 end
+    of-read end = subst (λ (b : List ℕ). EndsAs task b at.0 end) whole
 
-    ends : (answer : Result Answer E) (status : Status) → IfOk answer (λ answer. IsAnswer answer.status answer.lines.items (end_of task text at.0))
+    ends : (answer : Result Answer E) (status : Status) → IfOk answer (λ answer. EndsAs task text at.0 (end_of answer))
         → MatchResult answer (λ answer. EndsWriting tells.written tells.write_faults answer.status answer.lines.items status old.sink new.sink) (λ error. (status ≡ NoMemory) × (new.sink ≡ old.sink))
-        → (task ≡ Script → IfOk answer (λ answer. answer.status ≡ Done → IsPlayedOut text)) → Ends tells task status old new
-    ends (Ok answer) status is (inl done) plays =
-        let status_is : status ≡ (end_of task all.0 at.0).status = done.0 ∙ is.status_is ∙ ap (λ (e : End). e.status) same-end in
-        let lines_are : answer.lines.items ≡ (end_of task all.0 at.0).lines = is.lines_are ∙ ap (λ (e : End). e.lines) same-end in
+        → Ends tells task status old new
+    ends (Ok answer) status is (inl done) =
         let a : Answers tells task status old new = record {
           text = all.0;
           now = at.0;
+          end = end_of answer;
           takes = takes;
-          ends = status_is;
-          writes = subst (λ (lines : List ℕ). WritesAll tells.written tells.write_faults lines old.sink new.sink) lines_are done.1;
+          said = all.2 at.0 (end_of answer) (of-read (end_of answer) is);
+          ends = done.0;
+          writes = done.1;
         } in
-        answers-end tells task status old new a
-        (λ e.
-        let short : length bytes ≤ limit_of task = short-done task bytes at.0 (sym e ∙ status_is ∙ sym (ap (λ (e : End). e.status) (all.2 at.0))) in (
-          reads.to_end short,
-          λ is_script. subst IsPlayedOut (whole ∙ sym (all.3 short)) (plays is_script (sym done.0 ∙ e)),
-        )) (fits tells task status old new a)
-    ends (Ok answer) status is (inr stops) plays =
-        let lines_are : answer.lines.items ≡ (end_of task all.0 at.0).lines = is.lines_are ∙ ap (λ (e : End). e.lines) same-end in
+        answers-end tells task status old new a (λ e. reads.to_end (short-done task bytes at.0 (end_of answer) (of-read (end_of answer) is) (sym done.0 ∙ e))) (fits tells task status old new a)
+    ends (Ok answer) status is (inr stops) =
         subst (λ (s : Status). Ends tells task s old new) (sym stops.0) (stops-end tells task old new (record {
           text = all.0;
           now = at.0;
+          end = end_of answer;
           takes = takes;
-          stops = subst (λ (lines : List ℕ). StopsWriting tells.written tells.write_faults lines old.sink new.sink) lines_are stops.1;
+          said = all.2 at.0 (end_of answer) (of-read (end_of answer) is);
+          stops = stops.1;
         }))
-    ends (Err error) status is none plays =
+    ends (Err error) status is none =
         subst (λ (s : Status). Ends tells task s old new) (sym none.0) (wants-end tells task old new (record { quiet = quiet; unwritten = none.1; clock = inr (at.0, at.1) }))
 
 -- A text could not be read.

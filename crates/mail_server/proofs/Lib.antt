@@ -1,7 +1,10 @@
+pub mod Leads
 pub mod Scripts
+pub mod Going
 pub mod Told
-pub mod Reached
 pub mod Progress
+pub mod Alone
+pub mod Playing
 pub mod Transfers
 pub mod Readings
 pub mod Answering

@@ -1,23 +1,33 @@
 -- What the text of a script says, and the lines of its sessions.
-use Rattle.std.proofs.Common.{◌≡◌, ℕ, zero, suc, ◌+◌, ◌<◌, ◌≤◌, Bool, true, false, nat_lt, nat_le, List, [], ◌∷◌, ◌++◌, length, get_or, map, refl, sym, ◌∙◌, ap, arith, length-append}
+use Rattle.std.proofs.Common.{◌≡◌, ℕ, zero, suc, ◌+◌, ◌<◌, ◌≤◌, Bool, true, false, nat_lt, nat_le, List, [], ◌∷◌, ◌++◌, length, get_or, map, refl, sym, ◌∙◌, ap, subst, arith, length-append}
 use Rattle.std.specs.Prelude.{Option, Some, None, flat_map}
 use Rattle.std.specs.List.{range_with_len}
 use Rattle.std.proofs.lemmas.List.{append-nil}
 use Rattle.std.proofs.lemmas.Grind.{flat_map-append}
 use Rattle.std.proofs.lemmas.Bool.Decides.{nat_tests}
 use Rattle.port_model.specs.Transcript.{session_lines}
-use Rattle.mail_server.specs.Run.{ReadsUpTo, End, limit_of, end_of, end_of_long, end_of_text, transcript_of}
+use Rattle.mail_server.specs.Run.{ReadsUpTo, End, EndsAs, TextEnds, limit_of, end_of_long, transcript_of}
 use Rattle.mail_server.specs.declared.words.Task.{Task}
 use Rattle.mail_server.specs.declared.words.Task.TheVariants.{Script, Canon}
 use Rattle.mail_server.specs.declared.status.Status.TheVariants.{Done}
 
-pub end-long : (task : Task) (text : List ℕ) (now : ℕ) → limit_of task < length text → end_of task text now ≡ end_of_long task
-unfolding end_of
-end-long task text now le = let e : nat_lt (limit_of task) (length text) ≡ true = grind (arith, nat_tests, le) in rw e refl
+is-long : (task : Task) (text : List ℕ) → limit_of task < length text → nat_lt (limit_of task) (length text) ≡ true
+is-long task text gt = grind (arith, nat_tests, gt)
 
-pub end-short : (task : Task) (text : List ℕ) (now : ℕ) → length text ≤ limit_of task → end_of task text now ≡ end_of_text task text now
-unfolding end_of
-end-short task text now le = let e : nat_lt (limit_of task) (length text) ≡ false = grind (arith, nat_tests, le) in rw e refl
+is-short : (task : Task) (text : List ℕ) → length text ≤ limit_of task → nat_lt (limit_of task) (length text) ≡ false
+is-short task text le = grind (arith, nat_tests, le)
+
+pub ends-long : (task : Task) (text : List ℕ) (now : ℕ) (end : End) → limit_of task < length text → end ≡ end_of_long task → EndsAs task text now end
+unfolding EndsAs
+ends-long task text now end gt is = rw (is-long task text gt) is
+
+pub ends-short : (task : Task) (text : List ℕ) (now : ℕ) (end : End) → length text ≤ limit_of task → TextEnds false task text now end → EndsAs task text now end
+unfolding EndsAs
+ends-short task text now end le ends = subst (λ (b : Bool). TextEnds b task text now end) (sym (is-short task text le)) ends
+
+long-ends : (task : Task) (text : List ℕ) (now : ℕ) (end : End) → limit_of task < length text → EndsAs task text now end → end ≡ end_of_long task
+unfolding EndsAs
+long-ends task text now end gt ends = subst (λ (b : Bool). TextEnds b task text now end) (is-long task text gt) ends
 
 -- what was read and isn't too long is the whole text
 pub read-same : (limit : ℕ) (text bytes : List ℕ) (new : Option (List ℕ)) → ReadsUpTo limit bytes (Some text) new → length bytes ≤ limit → text ≡ bytes
@@ -27,17 +37,17 @@ read-same limit text bytes (Some rest) reads le =
     reads.taken ∙ ap (λ r. bytes ++ r) e ∙ append-nil bytes
 
 -- what was read ends a run as the whole text does
-pub end-read : (task : Task) (text bytes : List ℕ) (now : ℕ) (new : Option (List ℕ)) → ReadsUpTo (limit_of task) bytes (Some text) new → end_of task bytes now ≡ end_of task text now
-end-read task text bytes now None reads = absurd reads.taken
-end-read task text bytes now (Some rest) reads = by_length (nat_le (length bytes) (limit_of task)) refl
+pub ends-read : (task : Task) (text bytes : List ℕ) (now : ℕ) (end : End) (new : Option (List ℕ)) → ReadsUpTo (limit_of task) bytes (Some text) new → EndsAs task bytes now end → EndsAs task text now end
+ends-read task text bytes now end None reads ends = absurd reads.taken
+ends-read task text bytes now end (Some rest) reads ends = by_length (nat_le (length bytes) (limit_of task)) refl
   where
-    by_length : (b : Bool) → nat_le (length bytes) (limit_of task) ≡ b → end_of task bytes now ≡ end_of task text now
+    by_length : (b : Bool) → nat_le (length bytes) (limit_of task) ≡ b → EndsAs task text now end
     by_length true is =
         let le : length bytes ≤ limit_of task = grind (arith, nat_tests, is) in
-        ap (λ t. end_of task t now) (sym (read-same (limit_of task) text bytes (Some rest) reads le))
+        subst (λ (t : List ℕ). EndsAs task t now end) (sym (read-same (limit_of task) text bytes (Some rest) reads le)) ends
     by_length false is =
         let gt : limit_of task < length bytes = grind (arith, nat_tests, is) in
-        end-long task bytes now gt ∙ sym (end-long task text now (omega (arith, gt, ap length reads.taken, length-append bytes rest)))
+        ends-long task text now end (omega (arith, gt, ap length reads.taken, length-append bytes rest)) (long-ends task bytes now end gt ends)
 
 -- Numbers, and the lines of sessions by their numbers.
 
@@ -54,21 +64,14 @@ transcript-more last out =
     let e : 1 + last ≡ last + 1 = omega arith in
     ap (flat_map lines) (range-more 1 last) ∙ flat_map-append lines (range_with_len 1 last) ((1 + last) ∷ []) ∙ ap (λ n. transcript_of last out ++ n) (append-nil (lines (1 + last)) ∙ ap lines e)
 
-pub transcript-same : (last : ℕ) (out other : ℕ → List ℕ) → ((number : ℕ) → out number ≡ other number) → transcript_of last out ≡ transcript_of last other
-transcript-same last out other same = over (range_with_len 1 last)
-  where
-    over : (numbers : List ℕ) → flat_map (λ number. session_lines number (out number)) numbers ≡ flat_map (λ number. session_lines number (other number)) numbers
-    over [] = refl
-    over (n ∷ ns) = ap (λ l. l ++ flat_map (λ number. session_lines number (out number)) ns) (ap (session_lines n) (same n)) ∙ ap (λ l. session_lines n (other n) ++ l) (over ns)
-
 pub one-word : {X : Type 0} (f : X → List ℕ) (words : List X) (word : X) → 1 ≤ length words → length words < 2 → word ≡ get_or words 0 word → map f words ≡ f word ∷ []
 one-word f [] word some few is = absurd (omega arith)
 one-word f (w ∷ []) word some few is = ap (λ x. f x ∷ []) (sym is)
 one-word f (w ∷ v ∷ vs) word some few is = absurd (omega arith)
 
 -- a text by which a run is done isn't too long
-pub short-done : (task : Task) (bytes : List ℕ) (now : ℕ) → Done ≡ (end_of task bytes now).status → length bytes ≤ limit_of task
-short-done task bytes now done = by_length (nat_le (length bytes) (limit_of task)) refl
+pub short-done : (task : Task) (bytes : List ℕ) (now : ℕ) (end : End) → EndsAs task bytes now end → end.status ≡ Done → length bytes ≤ limit_of task
+short-done task bytes now end ends done = by_length (nat_le (length bytes) (limit_of task)) refl
   where
     long-isnt : (task : Task) → (end_of_long task).status ≡ Done → ⊥
     long-isnt Script e = cc
@@ -78,4 +81,4 @@ short-done task bytes now done = by_length (nat_le (length bytes) (limit_of task
     by_length true is = grind (arith, nat_tests, is)
     by_length false is =
         let gt : limit_of task < length bytes = grind (arith, nat_tests, is) in
-        absurd (long-isnt task (sym (done ∙ ap (λ (e : End). e.status) (end-long task bytes now gt))))
+        absurd (long-isnt task (sym (ap (λ (e : End). e.status) (long-ends task bytes now end gt ends)) ∙ done))

@@ -16,9 +16,9 @@ use Rattle.imap_lexer.specs.Units.{Cut, first}
 use Rattle.mail_model.specs.Step.{Shared, World}
 use Rattle.mail_model.specs.Machine.{Machine, Session, Taking, machine, take_event, takes, becomes, session_at, of_session, is_open, awaits_more, take_byte, take_piece, take_unit, taking_of, hears_piece, leaves}
 use Rattle.mail_server.specs.Script.{script_machine, port_event, and_opened, port_events, newest_first}
-use Rattle.mail_rounds.specs.Serves.{is_loss}
+use Rattle.mail_rounds.specs.Calls.{is_loss}
 use Rattle.mail_server.specs.Rounds.{is_loss_of, has_loss}
-use Rattle.mail_server.specs.OnScript.{runs, IsLinked, IsNext, AreNext, AreNumbered, MayLose, Leads}
+use Rattle.mail_server.proofs.Leads.{runs, IsLinked, IsNext, AreNext, AreNumbered, MayLose, Leads}
 
 -- Sessions by number
 
@@ -113,7 +113,7 @@ pub record OfOpen (act : Shared → Session → Taking) : Type 0 where
   pub number : (shared : Shared) (session : Session) → (act shared session).session.number ≡ session.number
   pub shut : (shared : Shared) (session : Session) → is_open session.standing ≡ false → act shared session ≡ taking_of shared session
 
-hears-own : (moment : ℕ) (piece : List ℕ) → OfOpen (hears_piece moment piece)
+pub hears-own : (moment : ℕ) (piece : List ℕ) → OfOpen (hears_piece moment piece)
 hears-own moment piece = record {
   number = λ shared session. piece-number moment piece (taking_of shared session);
   shut = λ shared session h. piece-shut moment piece (taking_of shared session) h;
@@ -123,7 +123,7 @@ leaves-number : (shared : Shared) (session : Session) (opened : Bool) → is_ope
 leaves-number shared session true h = rw h refl
 leaves-number shared session false h = rw h refl
 
-leaves-own : OfOpen leaves
+pub leaves-own : OfOpen leaves
 leaves-own = record { number = λ shared session. leaves-number shared session (is_open session.standing) refl; shut = λ shared session h. rw h refl }
 
 -- What an event leaves of the sessions
@@ -138,7 +138,7 @@ found-last : (m : Machine) (act : Shared → Session → Taking) (found : Option
 found-last m act None = refl
 found-last m act (Some session) = refl
 
-of-last : (m : Machine) (number : ℕ) (act : Shared → Session → Taking) → (of_session m number act).last ≡ m.last
+pub of-last : (m : Machine) (number : ℕ) (act : Shared → Session → Taking) → (of_session m number act).last ≡ m.last
 of-last m number act = found-last m act (session_at number m.sessions)
 
 of-numbered : (m : Machine) (number : ℕ) (act : Shared → Session → Taking) → AreNumbered 0 m.sessions m.last → AreNumbered 0 (of_session m number act).sessions (of_session m number act).last
@@ -166,7 +166,7 @@ or-left : (a b : Bool) → a ≡ true → a || b ≡ true
 or-left true b h = refl
 or-left false b h = absurd (cc)
 
-or-cases : {P : Type 0} (a b : Bool) → a || b ≡ true → (a ≡ true → P) → (b ≡ true → P) → P
+pub or-cases : {P : Type 0} (a b : Bool) → a || b ≡ true → (a ≡ true → P) → (b ≡ true → P) → P
 or-cases true b h f g = f refl
 or-cases false b h f g = g h
 
@@ -288,6 +288,9 @@ opened-more last (Opens kind) = omega arith
 opened-more last (Piece who bytes at) = omega arith
 opened-more last (Ends who) = omega arith
 opened-more last (Loses who) = omega arith
+
+pub event-rises : (m : Machine) (event : Event) → m.last ≤ (take_event m (port_event (m.last + 1) event)).last
+event-rises m event = omega (arith, event-last m event, opened-more m.last event)
 
 -- a list without the events of a number
 abbrev without : ℕ → List Event → List Event

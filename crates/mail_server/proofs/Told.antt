@@ -1,7 +1,6 @@
--- Chains of calls on ports that play a script, where they are told at the end.
+-- Chains of calls on ports that play a script.
 use Rattle.std.proofs.Common.{ℕ, ◌+◌, ◌<◌, ◌≤◌, ◌==◌, ◌||◌, nat_lt, nat_eq, cond, Bool, true, false, List, [], ◌∷◌, ◌++◌, Option, Some, None, Result, Ok, filter, length, drop, ◌≡◌, refl, ap, sym, ◌∙◌, subst, inl, inr, ◌⊎◌, append-nil, take_all, true≢false, arith}
-use Rattle.std.proofs.lemmas.Option.{same_Some}
-use Rattle.std.proofs.lemmas.Bool.Decides.{leb_tells, nat_tests}
+use Rattle.std.proofs.lemmas.Bool.Decides.{nat_tests}
 use Rattle.port_model.specs.declared.calls.Kind.{Kind}
 use Rattle.port_model.specs.declared.calls.ListenFault.{ListenFault}
 use Rattle.port_model.specs.declared.calls.PortSend.{PortSend}
@@ -19,62 +18,42 @@ use Rattle.port_model.specs.Playing.{Playing, IsPlayed, playing, is_of, given, m
 use Rattle.mail_model.specs.declared.standing.Standing.{Standing}
 use Rattle.mail_model.specs.declared.standing.Standing.TheVariants.{Open, Closing}
 use Rattle.mail_model.specs.Step.{World}
-use Rattle.mail_model.specs.Machine.{Machine, Session, machine, after, take_event, is_open}
-use Rattle.mail_rounds.specs.declared.link.Link.{Link}
-use Rattle.mail_rounds.specs.Calls.{Grows, Offers, OffersQueue, Closes, ClosesEmpty, Asks, AsksIdle, ReadsOnce, clocked, AcceptsBelow, read_room}
+use Rattle.mail_model.specs.Machine.{Machine, machine, after, take_event, is_open, leaves}
+use Rattle.mail_rounds.specs.Calls.{Due, Offers, OffersBytes, Closes, ClosesEmpty, Asks, AsksIdle, ReadsOnce, clocked, AcceptsBelow, read_room, is_lost}
 use Rattle.mail_server.specs.Script.{script_machine, port_event}
-use Rattle.mail_rounds.specs.Serves.{OpenAreKept, is_lost}
 use Rattle.mail_server.specs.Rounds.{plan_of, left_in, has_loss}
-use Rattle.mail_server.specs.OnScript.{AreNext, Leads, IsOn}
-use Rattle.mail_server.proofs.Scripts.{NoneOpen, leads-next, leads-close, leaves-out, numbers-last}
-
--- A step between histories that are told, the later of which has a property.
-pub record Told {X : Type 0} (Step : X → Option (List PortCall) → Option (List PortCall) → Type 0) (P : List PortCall → Type 0) (x : X) (before later : List PortCall) : Type 0 where
-  pub step : Step x (Some before) (Some later)
-  pub holds : P later
-
--- A step that ends told began told, and the property held before it.
-abbrev pub GoesBack : {X : Type 0} → (X → Option (List PortCall) → Option (List PortCall) → Type 0) → (List PortCall → Type 0) → Type 0
-GoesBack {X} Step P = (x : X) (old : Option (List PortCall)) (later : List PortCall) → P later → Step x old (Some later)
-    → (before : List PortCall) × (old ≡ Some before) × P before
-
-pub chain_back : {X : Type 0} (Step : X → Option (List PortCall) → Option (List PortCall) → Type 0) (P : List PortCall → Type 0) → GoesBack Step P
-    → (xs : List X) (old : Option (List PortCall)) (later : List PortCall) → P later → Chain Step xs old (Some later)
-    → (before : List PortCall) × (old ≡ Some before) × P before × Chain (Told Step P) xs before later
-chain_back Step P back [] old later p c = (later, sym c, p, refl)
-chain_back Step P back (x ∷ xs) old later p c =
-    let rest = chain_back Step P back xs c.0 later p c.2 in
-    let step : Step x old (Some rest.0) = subst (Step x old) rest.1 c.1 in
-    let one = back x old rest.0 rest.2 step in
-    (one.0, one.1, one.2, (rest.0, record { step = subst (λ (o : Option (List PortCall)). Step x o (Some rest.0)) one.1 step; holds = rest.2 }, rest.3))
-
-grows_back : (Calls : List PortCall → List PortCall → Type 0) (old : Option (List PortCall)) (later : List PortCall) → Grows Calls old (Some later)
-    → (before : List PortCall) × (old ≡ Some before) × Calls before later
-grows_back Calls None later h = absurd h
-grows_back Calls (Some before) later h = (before, refl, h)
+use Rattle.mail_server.proofs.Leads.{AreNext, Leads, IsOn}
+use Rattle.mail_server.proofs.Going.{Goes, goes_same, goes_next}
+use Rattle.mail_server.proofs.Scripts.{NoneOpen, leads-next, leads-close, leaves-out, numbers-last, of-last, or-cases}
 
 -- Every call has the script's answer.
 abbrev pub Plays : List Event → List PortCall → Type 0
 Plays script calls = IsPlayed (plan_of script) calls
 
--- .. and no session that is open is closed.
-pub record PlaysKept (first : World) (script : List Event) (calls : List PortCall) : Type 0 where
-  pub plays : Plays script calls
-  pub open_kept : OpenAreKept calls (after first calls).sessions
-  pub later_open : (number : ℕ) → (after first calls).last < number → is_closed calls number ≡ false
+-- A step whose calls have the script's answers.
+pub record Told (Step : Due → List PortCall → List PortCall → Type 0) (script : List Event) (due : Due) (before later : List PortCall) : Type 0 where
+  pub step : Step due before later
+  pub holds : Plays script later
+
+-- Calls that have the script's answers at the end of a step have them before it.
+abbrev pub GoesBack : (Due → List PortCall → List PortCall → Type 0) → List Event → Type 0
+GoesBack Step script = (due : Due) (before later : List PortCall) → Plays script later → Step due before later → Plays script before
+
+pub chain_back : (Step : Due → List PortCall → List PortCall → Type 0) (script : List Event) → GoesBack Step script → (list : List Due) (before later : List PortCall) → Plays script later
+    → Chain Step list before later → Plays script before × Chain (Told Step script) list before later
+chain_back Step script back [] before later p c = (subst (Plays script) c p, c)
+chain_back Step script back (due ∷ list) before later p c =
+    let rest = chain_back Step script back list c.0 later p c.2 in
+    (back due before c.0 rest.0 c.1, (c.0, record { step = c.1; holds = rest.0 }, rest.1))
 
 -- Offers
 
-offers_queue_back : (script : List Event) (number : ℕ) (queue : List ℕ) (old : Option (List PortCall)) (later : List PortCall) → Plays script later
-    → OffersQueue number queue old (Some later) → (before : List PortCall) × (old ≡ Some before) × Plays script before
-offers_queue_back script number [] old later p h = (later, sym h, p)
-offers_queue_back script number (byte ∷ queue) old later p h =
-    let g = grows_back (λ (b l : List PortCall). (answer : PortSend) × (l ≡ Send number (byte ∷ queue) answer ∷ b)) old later h in
-    let played : Plays script (Send number (byte ∷ queue) g.2.0 ∷ g.0) = subst (Plays script) g.2.1 p in
-    (g.0, g.1, played.1)
+offers-bytes-back : (script : List Event) (number : ℕ) (bytes : List ℕ) (before later : List PortCall) → Plays script later → OffersBytes number bytes before later → Plays script before
+offers-bytes-back script number [] before later p h = subst (Plays script) h p
+offers-bytes-back script number (byte ∷ bytes) before later p h = (subst (Plays script) h.1 p).1
 
-pub offers_back : (script : List Event) → GoesBack Offers (Plays script)
-offers_back script link old later p h = offers_queue_back script link.number link.queue.items old later p h
+pub offers_back : (script : List Event) → GoesBack Offers script
+offers_back script due before later p h = offers-bytes-back script due.number due.unsent before later p h
 
 read-sends : (now_playing : Playing) (number room : ℕ) (left : List Event) → (after_read now_playing number room left).sends ≡ now_playing.sends
 read-sends p number room [] = refl
@@ -136,6 +115,8 @@ pub record OffersAll (first : World) (script : List Event) (number : ℕ) (queue
   pub on : IsOn first script later
   pub shorter : length (left_in script later) ≤ length (left_in script before)
   pub out_same : (who : ℕ) → (after first later).out who ≡ (after first before).out who
+  pub closed_same : (who : ℕ) → is_closed later who ≡ is_closed before who
+  pub last_same : (after first later).last ≡ (after first before).last
   pub others : (who : ℕ) → (number == who) ≡ false → (sent later who ≡ sent before who) × (is_lost who (events later) ≡ is_lost who (events before))
   pub own : sent later number ≡ sent before number ++ cond (is_lost number (events later)) [] queue
   pub still : is_lost number (events later) ≡ false → is_lost number (events before) ≡ false
@@ -146,7 +127,7 @@ none-either false bytes = sym (append-nil bytes)
 
 offers_none : (first : World) (script : List Event) (number : ℕ) (before : List PortCall) → IsOn first script before → OffersAll first script number [] before before
 offers_none first script number before on =
-    record { on = on; shorter = omega arith; out_same = λ who. refl; others = λ who other. (refl, refl); own = none-either (is_lost number (events before)) (sent before number); still = λ h. h }
+    record { on = on; shorter = omega arith; out_same = λ who. refl; closed_same = λ who. refl; last_same = refl; others = λ who other. (refl, refl); own = none-either (is_lost number (events before)) (sent before number); still = λ h. h }
 
 pub itself : (number : ℕ) → (number == number) ≡ true
 itself number = grind (arith, nat_tests)
@@ -159,6 +140,8 @@ offers_took first script number queue before none linked on =
       on = on_same first script before (Send number queue (Took (length queue)) ∷ before) left refl refl on;
       shorter = omega (arith, ap (λ (l : List Event). length l) left);
       out_same = λ who. refl;
+      closed_same = λ who. refl;
+      last_same = refl;
       others = λ who other. (rw other refl, refl);
       own = rw (itself number, linked) (ap (λ (bytes : List ℕ). sent before number ++ bytes) (take_all (length queue) queue (omega arith)));
       still = λ h. h;
@@ -176,6 +159,8 @@ offers_lost first script number queue before next on =
       on = on_next first script before (Send number queue SendLost ∷ before) (Loses number) parts.0 parts.1 parts.2 refl refl on;
       shorter = omega (arith, ap (λ (l : List Event). length l) parts.1, ap (λ (l : List Event). length l) parts.2);
       out_same = λ who. ap (λ (m : Machine). m.out who) (after-lost first before number queue) ∙ leaves-out (after first before) number who;
+      closed_same = λ who. refl;
+      last_same = ap (λ (m : Machine). m.last) (after-lost first before number queue) ∙ of-last (after first before) number leaves;
       others = λ who other. (rw other refl, rw other refl);
       own = rw (itself number) refl;
       still = λ h. let bad : true ≡ false = rw (itself number) at h in absurd (cc);
@@ -193,9 +178,9 @@ answer-took : (script : List Event) (number offered : ℕ) (before : List PortCa
     → answer_to_send (playing (plan_of script) before) number offered ≡ Took offered
 answer-took script number offered before none = rw (none, sends-none script before) refl
 
-told_queue : (first : World) (script : List Event) (number : ℕ) (queue : List ℕ) (before later : List PortCall) → OffersQueue number queue (Some before) (Some later)
+told_queue : (first : World) (script : List Event) (number : ℕ) (queue : List ℕ) (before later : List PortCall) → OffersBytes number queue before later
     → Plays script later → IsOn first script before → (is_lost number (events before) ≡ true → queue ≡ []) → OffersAll first script number queue before later
-told_queue first script number [] before later h p on none = subst (OffersAll first script number [] before) (sym (same_Some later before h)) (offers_none first script number before on)
+told_queue first script number [] before later h p on none = subst (OffersAll first script number [] before) (sym h) (offers_none first script number before on)
 told_queue first script number (byte ∷ queue) before later h p on none =
     subst (OffersAll first script number (byte ∷ queue) before) (sym h.1) (send-case (loses (left_in script before) number) refl)
   where
@@ -211,35 +196,11 @@ told_queue first script number (byte ∷ queue) before later h p on none =
         subst (λ (a : PortSend). OffersAll first script number (byte ∷ queue) before (Send number (byte ∷ queue) a ∷ before))
         (sym (played.0 ∙ answer-took script number (length (byte ∷ queue)) before next)) (offers_took first script number (byte ∷ queue) before next linked on)
 
-pub told_offer : (first : World) (script : List Event) (link : Link) (before later : List PortCall) → Told Offers (Plays script) link before later → IsOn first script before
-    → (is_lost link.number (events before) ≡ true → link.queue.items ≡ []) → OffersAll first script link.number link.queue.items before later
-told_offer first script link before later t on none = told_queue first script link.number link.queue.items before later t.step t.holds on none
+pub told_offer : (first : World) (script : List Event) (due : Due) (before later : List PortCall) → Told Offers script due before later → IsOn first script before
+    → (is_lost due.number (events before) ≡ true → due.unsent ≡ []) → OffersAll first script due.number due.unsent before later
+told_offer first script due before later t on none = told_queue first script due.number due.unsent before later t.step t.holds on none
 
 -- Closes
-
-or-parts : (a b : Bool) → a || b ≡ false → (a ≡ false) × (b ≡ false)
-or-parts true b h = absurd (cc)
-or-parts false b h = (refl, h)
-
-open_kept-before : (number : ℕ) (calls : List PortCall) (sessions : List Session) → OpenAreKept (Close number ∷ calls) sessions → OpenAreKept calls sessions
-open_kept-before number calls [] h = tt
-open_kept-before number calls (session ∷ sessions) h =
-    ((λ o. (or-parts (number == session.number) (is_closed calls session.number) (h.0 o)).1), open_kept-before number calls sessions h.1)
-
-none_open-closed : (number : ℕ) (calls : List PortCall) (sessions : List Session) → OpenAreKept (Close number ∷ calls) sessions → NoneOpen number sessions
-none_open-closed number calls [] h = tt
-none_open-closed number calls (session ∷ sessions) h = (
-  (λ o. let other : (number == session.number) ≡ false = (or-parts (number == session.number) (is_closed calls session.number) (h.0 o)).0 in grind (arith, nat_tests)),
-  none_open-closed number calls sessions h.1,
-)
-
-kept-before : (first : World) (script : List Event) (number : ℕ) (calls : List PortCall) → PlaysKept first script (Close number ∷ calls) → PlaysKept first script calls
-kept-before first script number calls p =
-    record {
-      plays = p.plays.1;
-      open_kept = open_kept-before number calls (after first calls).sessions p.open_kept;
-      later_open = λ who above. (or-parts (number == who) (is_closed calls who) (p.later_open who above)).1;
-    }
 
 -- What a close leaves.
 pub record ClosesOn (first : World) (script : List Event) (before later : List PortCall) : Type 0 where
@@ -248,6 +209,7 @@ pub record ClosesOn (first : World) (script : List Event) (before later : List P
   pub same : events later ≡ events before
   pub sent_same : (who : ℕ) → sent later who ≡ sent before who
   pub still : (who : ℕ) → is_closed before who ≡ true → is_closed later who ≡ true
+  pub low : ((who : ℕ) → is_closed before who ≡ true → who ≤ (after first before).last) → (who : ℕ) → is_closed later who ≡ true → who ≤ (after first later).last
 
 filter-shorter : (P : Event → Bool) (left : List Event) → length (filter P left) ≤ length left
 filter-shorter P [] = omega arith
@@ -259,64 +221,56 @@ or-true : (a b : Bool) → b ≡ true → a || b ≡ true
 or-true true b h = refl
 or-true false b h = h
 
-at-most : (first : World) (script : List Event) (number : ℕ) (calls : List PortCall) → PlaysKept first script (Close number ∷ calls) → number ≤ (after first calls).last
-at-most first script number calls p =
-    elim (leb_tells number (after first calls).last) [
-      | inl low ↦ low.1
-      | inr high ↦ let open_still : (number == number) ≡ false = (or-parts (number == number) (is_closed calls number) (p.later_open number high.1)).0 in
-          let same : (number == number) ≡ true = itself number in absurd (cc)
-    ]
+-- a session that isn't open, the only one of its number
+pub record IsShut (m : Machine) (number : ℕ) : Type 0 where
+  pub shut : NoneOpen number m.sessions
+  pub within : number ≤ m.last
 
-closes_one : (first : World) (script : List Event) (number : ℕ) (before : List PortCall) → PlaysKept first script (Close number ∷ before) → IsOn first script before → ClosesOn first script before (Close number ∷ before)
-closes_one first script number before p on =
+closes_one : (first : World) (script : List Event) (number : ℕ) (before : List PortCall) → IsShut (after first before) number → IsOn first script before → ClosesOn first script before (Close number ∷ before)
+closes_one first script number before s on =
     record {
-      on = leads-close number (left_in script before) (is_closed before) (λ n. has_loss n script) (λ n. is_lost n (events before)) (after first before) (script_machine first script)
-          (none_open-closed number before (after first before).sessions p.open_kept) (at-most first script number before p) on;
+      on = leads-close number (left_in script before) (is_closed before) (λ n. has_loss n script) (λ n. is_lost n (events before)) (after first before) (script_machine first script) s.shut s.within on;
       shorter = filter-shorter _ (left_in script before);
       same = refl;
       sent_same = λ who. refl;
       still = λ who h. or-true (number == who) (is_closed before who) h;
+      low = λ was who h. or-cases (number == who) (is_closed before who) h
+          (λ its. let e : number ≡ who = grind (arith, nat_tests, its) in omega (arith, e, s.within)) (was who);
     }
 
-closes_none : (first : World) (script : List Event) (before : List PortCall) → IsOn first script before → ClosesOn first script before before
-closes_none first script before on = record { on = on; shorter = omega arith; same = refl; sent_same = λ who. refl; still = λ who h. h }
+pub closes_none : (first : World) (script : List Event) (before : List PortCall) → IsOn first script before → ClosesOn first script before before
+closes_none first script before on = record { on = on; shorter = omega arith; same = refl; sent_same = λ who. refl; still = λ who h. h; low = λ was. was }
 
--- A step closes a link, or nothing happens.
-abbrev ClosesMaybe : ℕ → Option (List PortCall) → Option (List PortCall) → Type 0
-ClosesMaybe number old new = (new ≡ old) ⊎ Grows (λ before later. later ≡ Close number ∷ before) old new
+-- A step closes a link that isn't open, or nothing happens.
+closes-maybe : (standing : Standing) (number : ℕ) (bytes : List ℕ) (before later : List PortCall) → ClosesEmpty standing number bytes before later
+    → (later ≡ before) ⊎ ((later ≡ Close number ∷ before) × (is_open standing ≡ false))
+closes-maybe Open number bytes before later h = inl h
+closes-maybe Closing number (byte ∷ bytes) before later h = inl h
+closes-maybe Closing number [] before later h = inr (h, refl)
 
-closes-maybe : (standing : Standing) (number : ℕ) (queue : List ℕ) (old new : Option (List PortCall)) → ClosesEmpty standing number queue old new → ClosesMaybe number old new
-closes-maybe Open number queue old new h = inl h
-closes-maybe Closing number (byte ∷ queue) old new h = inl h
-closes-maybe Closing number [] old new h = inr h
+pub closes_back : (script : List Event) → GoesBack Closes script
+closes_back script due before later p h =
+    elim (closes-maybe due.standing due.number due.unsent before later h) [ inl same ↦ subst (Plays script) same p | inr one ↦ (subst (Plays script) one.0 p).1 ]
 
-pub closes_back : (first : World) (script : List Event) → GoesBack Closes (PlaysKept first script)
-closes_back first script link old later p h =
-    elim (closes-maybe link.standing link.number link.queue.items old (Some later) h) [
-      | inl same ↦ (later, sym same, p)
-      | inr grows ↦ let g = grows_back (λ (b l : List PortCall). l ≡ Close link.number ∷ b) old later grows in
-          (g.0, g.1, kept-before first script link.number g.0 (subst (PlaysKept first script) g.2 p))
-    ]
-
-pub told_close : (first : World) (script : List Event) (link : Link) (before later : List PortCall) → Told Closes (PlaysKept first script) link before later → IsOn first script before
-    → ClosesOn first script before later
-told_close first script link before later t on =
-    elim (closes-maybe link.standing link.number link.queue.items (Some before) (Some later) t.step) [
-      | inl same ↦ subst (ClosesOn first script before) (sym (same_Some later before same)) (closes_none first script before on)
-      | inr one ↦ subst (ClosesOn first script before) (sym one) (closes_one first script link.number before (subst (PlaysKept first script) one t.holds) on)
+pub told_close : (first : World) (script : List Event) (due : Due) (before later : List PortCall) → Told Closes script due before later → (is_open due.standing ≡ false → IsShut (after first before) due.number)
+    → IsOn first script before → ClosesOn first script before later
+told_close first script due before later t shut on =
+    elim (closes-maybe due.standing due.number due.unsent before later t.step) [
+      | inl same ↦ subst (ClosesOn first script before) (sym same) (closes_none first script before on)
+      | inr one ↦ subst (ClosesOn first script before) (sym one.0) (closes_one first script due.number before (shut one.1) on)
     ]
 
 -- A link that isn't open and has nothing to send is closed.
-closes-empty : (standing : Standing) (number : ℕ) (queue : List ℕ) (before later : List PortCall) → is_open standing ≡ false → queue ≡ []
-    → ClosesEmpty standing number queue (Some before) (Some later) → later ≡ Close number ∷ before
-closes-empty Open number queue before later shut none h = absurd (cc)
+closes-empty : (standing : Standing) (number : ℕ) (bytes : List ℕ) (before later : List PortCall) → is_open standing ≡ false → bytes ≡ []
+    → ClosesEmpty standing number bytes before later → later ≡ Close number ∷ before
+closes-empty Open number bytes before later shut none h = absurd (cc)
 closes-empty Closing number [] before later shut none h = h
-closes-empty Closing number (byte ∷ queue) before later shut none h = absurd (cc)
+closes-empty Closing number (byte ∷ bytes) before later shut none h = absurd (cc)
 
-pub told_closed : (first : World) (script : List Event) (link : Link) (before later : List PortCall) → Told Closes (PlaysKept first script) link before later
-    → is_open link.standing ≡ false → link.queue.items ≡ [] → is_closed later link.number ≡ true
-told_closed first script link before later t shut none =
-    rw (closes-empty link.standing link.number link.queue.items before later shut none t.step) (rw (itself link.number) refl)
+pub told_closed : (script : List Event) (due : Due) (before later : List PortCall) → Told Closes script due before later
+    → is_open due.standing ≡ false → due.unsent ≡ [] → is_closed later due.number ≡ true
+told_closed script due before later t shut none =
+    rw (closes-empty due.standing due.number due.unsent before later shut none t.step) (rw (itself due.number) refl)
 
 -- Reads
 
@@ -331,9 +285,11 @@ pub record TakesNext (first : World) (script : List Event) (turn : Bool) (before
   pub shorter : length (left_in script later) ≤ length (left_in script before)
   pub same : turn ≡ false → left_in script later ≡ left_in script before
   pub takes : turn ≡ true → length (left_in script later) < length (left_in script before)
+  pub goes : Goes first before later
 
 takes_none : (first : World) (script : List Event) (before : List PortCall) → IsOn first script before → TakesNext first script false before before
-takes_none first script before on = record { on = on; shorter = omega arith; same = λ h. refl; takes = λ h. absurd (cc) }
+takes_none first script before on =
+    record { on = on; shorter = omega arith; same = λ h. refl; takes = λ h. absurd (cc); goes = goes_same first before before refl (λ who. refl) (λ who. refl) }
 
 read_played : (script : List Event) (number : ℕ) (answer : ReadAnswer) (reading : ℕ) (before : List PortCall)
     → Plays script (clocked answer reading (Read number read_room answer ∷ before)) → Plays script (Read number read_room answer ∷ before)
@@ -342,39 +298,39 @@ read_played script number Quiet reading before p = p
 read_played script number HasEnded reading before p = p
 read_played script number WasLost reading before p = p
 
-reads-maybe : (standing : Standing) (number : ℕ) (queue : List ℕ) (old new : Option (List PortCall)) → AsksIdle standing number queue old new
-    → (new ≡ old) ⊎ Grows (ReadsOnce number) old new
-reads-maybe Open number [] old new h = inr h
-reads-maybe Open number (byte ∷ queue) old new h = inl h
-reads-maybe Closing number queue old new h = inl h
+reads-maybe : (standing : Standing) (number : ℕ) (bytes : List ℕ) (before later : List PortCall) → AsksIdle standing number bytes before later → (later ≡ before) ⊎ ReadsOnce number before later
+reads-maybe Open number [] before later h = inr h
+reads-maybe Open number (byte ∷ bytes) before later h = inl h
+reads-maybe Closing number bytes before later h = inl h
 
-pub asks_back : (script : List Event) → GoesBack Asks (Plays script)
-asks_back script link old later p h =
-    elim (reads-maybe link.standing link.number link.queue.items old (Some later) h) [
-      | inl same ↦ (later, sym same, p)
-      | inr grows ↦ let g = grows_back (ReadsOnce link.number) old later grows in
-          (g.0, g.1, (read_played script link.number g.2.0 g.2.1 g.0 (subst (Plays script) g.2.2 p)).1)
+pub asks_back : (script : List Event) → GoesBack Asks script
+asks_back script due before later p h =
+    elim (reads-maybe due.standing due.number due.unsent before later h) [
+      | inl same ↦ subst (Plays script) same p
+      | inr reads ↦ (read_played script due.number reads.0 reads.1 before (subst (Plays script) reads.2 p)).1
     ]
 
 -- What calls leave that take the next event of a script, or none.
 
 takes_event : (first : World) (script : List Event) (before later : List PortCall) (event : Event) (rest : List Event) → left_in script before ≡ event ∷ rest → left_in script later ≡ rest
-    → events later ≡ port_event ((after first before).last + 1) event ∷ events before → is_closed later ≡ is_closed before
+    → events later ≡ port_event ((after first before).last + 1) event ∷ events before → is_closed later ≡ is_closed before → ((who : ℕ) → sent later who ≡ sent before who)
     → IsOn first script before → TakesNext first script true before later
-takes_event first script before later event rest e left are closed on = record {
+takes_event first script before later event rest e left are closed sends on = record {
   on = on_next first script before later event rest e left are closed on;
   shorter = omega (arith, ap (λ (l : List Event). length l) left, ap (λ (l : List Event). length l) e);
   same = λ h. absurd (true≢false h);
   takes = λ h. omega (arith, ap (λ (l : List Event). length l) left, ap (λ (l : List Event). length l) e);
+  goes = goes_next first before later event (subst (AreNext (is_closed before) (after first before).last) e on.next).0 are sends closed;
 }
 
 takes_nothing : (first : World) (script : List Event) (before later : List PortCall) → left_in script later ≡ left_in script before → events later ≡ events before → is_closed later ≡ is_closed before
-    → IsOn first script before → TakesNext first script false before later
-takes_nothing first script before later left are closed on = record {
+    → ((who : ℕ) → sent later who ≡ sent before who) → IsOn first script before → TakesNext first script false before later
+takes_nothing first script before later left are closed sends on = record {
   on = on_same first script before later left are closed on;
   shorter = omega (arith, ap (λ (l : List Event). length l) left);
   same = λ h. left;
   takes = λ h. absurd (true≢false (sym h));
+  goes = goes_same first before later are sends (λ who. ap (λ (c : ℕ → Bool). c who) closed);
 }
 
 fits-whole : (room : ℕ) (who : ℕ) (bytes : List ℕ) (at : ℕ) → length bytes ≤ room → rest_of (Piece who bytes at) room ≡ []
@@ -399,7 +355,7 @@ told_quiet first script number answer reading before p on h =
     let nothing = read-none (playing (plan_of script) before) number read_room (left_in script before) h in
     let answered : answer ≡ Quiet = (read_played script number answer reading before p).0 ∙ nothing.1 in
     subst (λ (a : ReadAnswer). TakesNext first script false before (clocked a reading (Read number read_room a ∷ before))) (sym answered)
-    (takes_nothing first script before (Read number read_room Quiet ∷ before) (ap (λ (q : Playing). q.left) nothing.0) refl refl on)
+    (takes_nothing first script before (Read number read_room Quiet ∷ before) (ap (λ (q : Playing). q.left) nothing.0) refl refl (λ who. refl) on)
 
 told_piece : (first : World) (script : List Event) (number : ℕ) (answer : ReadAnswer) (reading : ℕ) (bytes : List ℕ) (at : ℕ) (later : List Event) (before : List PortCall)
     → Plays script (clocked answer reading (Read number read_room answer ∷ before)) → IsOn first script before → left_in script before ≡ Piece number bytes at ∷ later
@@ -413,7 +369,7 @@ told_piece first script number answer reading bytes at later before p on e =
     let its : reading ≡ at = played.0 ∙ read.2 in
     subst (λ (a : ReadAnswer). TakesNext first script true before (clocked a reading (Read number read_room a ∷ before))) (sym answered)
     (takes_event first script before (Now reading ∷ Read number read_room (Gave bytes) ∷ before) (Piece number bytes at) later e read.0
-    (ap (λ (r : ℕ). CamePiece number bytes (moment r) ∷ events before) its) refl on)
+    (ap (λ (r : ℕ). CamePiece number bytes (moment r) ∷ events before) its) refl (λ who. refl) on)
 
 told_end : (first : World) (script : List Event) (number : ℕ) (answer : ReadAnswer) (reading : ℕ) (later : List Event) (before : List PortCall)
     → Plays script (clocked answer reading (Read number read_room answer ∷ before)) → IsOn first script before → left_in script before ≡ Ends number ∷ later
@@ -422,7 +378,7 @@ told_end first script number answer reading later before p on e =
     let read = read-left (playing (plan_of script) before) number read_room (Ends number) later (left_in script before) (itself number) refl e in
     let answered : answer ≡ HasEnded = (read_played script number answer reading before p).0 ∙ read.1 in
     subst (λ (a : ReadAnswer). TakesNext first script true before (clocked a reading (Read number read_room a ∷ before))) (sym answered)
-    (takes_event first script before (Read number read_room HasEnded ∷ before) (Ends number) later e read.0 refl refl on)
+    (takes_event first script before (Read number read_room HasEnded ∷ before) (Ends number) later e read.0 refl refl (λ who. refl) on)
 
 told_loss : (first : World) (script : List Event) (number : ℕ) (answer : ReadAnswer) (reading : ℕ) (later : List Event) (before : List PortCall)
     → Plays script (clocked answer reading (Read number read_room answer ∷ before)) → IsOn first script before → left_in script before ≡ Loses number ∷ later
@@ -431,7 +387,7 @@ told_loss first script number answer reading later before p on e =
     let read = read-left (playing (plan_of script) before) number read_room (Loses number) later (left_in script before) (itself number) refl e in
     let answered : answer ≡ WasLost = (read_played script number answer reading before p).0 ∙ read.1 in
     subst (λ (a : ReadAnswer). TakesNext first script true before (clocked a reading (Read number read_room a ∷ before))) (sym answered)
-    (takes_event first script before (Read number read_room WasLost ∷ before) (Loses number) later e read.0 refl refl on)
+    (takes_event first script before (Read number read_room WasLost ∷ before) (Loses number) later e read.0 refl refl (λ who. refl) on)
 
 told_next : (first : World) (script : List Event) (number : ℕ) (answer : ReadAnswer) (reading : ℕ) (before : List PortCall)
     → Plays script (clocked answer reading (Read number read_room answer ∷ before)) → IsOn first script before
@@ -459,25 +415,25 @@ told_read first script number before later h p on =
     (told_next first script number h.0 h.1 before (subst (Plays script) h.2 p) on (left_in script before) refl (begins number (left_in script before)) refl)
 
 -- A link that isn't asked takes nothing, and one that is takes the next event, if it is its own.
-pub told_ask : (first : World) (script : List Event) (link : Link) (before later : List PortCall) → Told Asks (Plays script) link before later → IsOn first script before
-    → TakesNext first script false before later ⊎ TakesNext first script (begins link.number (left_in script before)) before later
-told_ask first script link before later t on =
-    elim (reads-maybe link.standing link.number link.queue.items (Some before) (Some later) t.step) [
-      | inl same ↦ inl (subst (TakesNext first script false before) (sym (same_Some later before same)) (takes_none first script before on))
-      | inr reads ↦ inr (told_read first script link.number before later reads t.holds on)
+pub told_ask : (first : World) (script : List Event) (due : Due) (before later : List PortCall) → Told Asks script due before later → IsOn first script before
+    → TakesNext first script false before later ⊎ TakesNext first script (begins due.number (left_in script before)) before later
+told_ask first script due before later t on =
+    elim (reads-maybe due.standing due.number due.unsent before later t.step) [
+      | inl same ↦ inl (subst (TakesNext first script false before) (sym same) (takes_none first script before on))
+      | inr reads ↦ inr (told_read first script due.number before later reads t.holds on)
     ]
 
-asks-open : (standing : Standing) (number : ℕ) (queue : List ℕ) (before later : List PortCall) → is_open standing ≡ true → queue ≡ []
-    → AsksIdle standing number queue (Some before) (Some later) → ReadsOnce number before later
+asks-open : (standing : Standing) (number : ℕ) (bytes : List ℕ) (before later : List PortCall) → is_open standing ≡ true → bytes ≡ []
+    → AsksIdle standing number bytes before later → ReadsOnce number before later
 asks-open Open number [] before later opened none h = h
-asks-open Open number (byte ∷ queue) before later opened none h = absurd (cc)
-asks-open Closing number queue before later opened none h = absurd (cc)
+asks-open Open number (byte ∷ bytes) before later opened none h = absurd (cc)
+asks-open Closing number bytes before later opened none h = absurd (cc)
 
 -- A link that is open and has nothing to send takes the next event, if it is its own.
-pub told_idle : (first : World) (script : List Event) (link : Link) (before later : List PortCall) → Told Asks (Plays script) link before later → IsOn first script before
-    → is_open link.standing ≡ true → link.queue.items ≡ [] → TakesNext first script (begins link.number (left_in script before)) before later
-told_idle first script link before later t on opened none =
-    told_read first script link.number before later (asks-open link.standing link.number link.queue.items before later opened none t.step) t.holds on
+pub told_idle : (first : World) (script : List Event) (due : Due) (before later : List PortCall) → Told Asks script due before later → IsOn first script before
+    → is_open due.standing ≡ true → due.unsent ≡ [] → TakesNext first script (begins due.number (left_in script before)) before later
+told_idle first script due before later t on opened none =
+    told_read first script due.number before later (asks-open due.standing due.number due.unsent before later opened none t.step) t.holds on
 
 -- Accepts
 
@@ -489,13 +445,9 @@ begins_open (Piece number bytes at ∷ later) = false
 begins_open (Ends number ∷ later) = false
 begins_open (Loses number ∷ later) = false
 
-pub accepts_back : (script : List Event) (full : Bool) (last : ℕ) (old : Option (List PortCall)) (later : List PortCall) → Plays script later
-    → AcceptsBelow full last old (Some later) → (before : List PortCall) × (old ≡ Some before) × Plays script before
-accepts_back script true last old later p h = (later, sym h, p)
-accepts_back script false last old later p h =
-    let g = grows_back (λ (b l : List PortCall). (answer : Result (Option Kind) ListenFault) × (l ≡ Accept (last + 1) answer ∷ b)) old later h in
-    let played : Plays script (Accept (last + 1) g.2.0 ∷ g.0) = subst (Plays script) g.2.1 p in
-    (g.0, g.1, played.1)
+pub accepts_back : (script : List Event) (full : Bool) (last : ℕ) (before later : List PortCall) → Plays script later → AcceptsBelow full last before later → Plays script before
+accepts_back script true last before later p h = subst (Plays script) h p
+accepts_back script false last before later p h = (subst (Plays script) h.1 p).1
 
 accept-quiet : (left : List Event) → begins_open left ≡ false → (answer_to_accept left ≡ None) × (after_accept left ≡ left)
 accept-quiet [] h = (refl, refl)
@@ -510,7 +462,7 @@ accepts_none first script number answer before p on h =
     let nothing = accept-quiet (left_in script before) h in
     let answered : answer ≡ Ok None = p.0 ∙ ap (λ (found : Option Kind). Ok found) nothing.0 in
     subst (λ (a : Result (Option Kind) ListenFault). TakesNext first script false before (Accept number a ∷ before)) (sym answered)
-    (takes_nothing first script before (Accept number (Ok None) ∷ before) nothing.1 refl refl on)
+    (takes_nothing first script before (Accept number (Ok None) ∷ before) nothing.1 refl refl (λ who. refl) on)
 
 accepts_some : (first : World) (script : List Event) (number : ℕ) (answer : Result (Option Kind) ListenFault) (kind : Kind) (later : List Event) (before : List PortCall)
     → Plays script (Accept number answer ∷ before) → IsOn first script before
@@ -520,7 +472,7 @@ accepts_some first script number answer kind later before p on e its =
     let answered : answer ≡ Ok (Some kind) = p.0 ∙ ap (λ (l : List Event). Ok (answer_to_accept l)) e in
     subst (λ (a : Result (Option Kind) ListenFault). TakesNext first script true before (Accept number a ∷ before)) (sym answered)
     (takes_event first script before (Accept number (Ok (Some kind)) ∷ before) (Opens kind) later e (ap (λ (l : List Event). after_accept l) e)
-    (ap (λ (n : ℕ). Opened n kind ∷ events before) its) refl on)
+    (ap (λ (n : ℕ). Opened n kind ∷ events before) its) refl (λ who. refl) on)
 
 accept-answered : (first : World) (script : List Event) (number : ℕ) (answer : Result (Option Kind) ListenFault) (before : List PortCall) → Plays script (Accept number answer ∷ before) → IsOn first script before
     → number ≡ (after first before).last + 1 → (left : List Event) → left_in script before ≡ left
@@ -544,11 +496,11 @@ accept-full first script before on full (Loses who ∷ later) e = takes_none fir
 
 -- An accept takes the next event, if it opens a session.
 pub told_accept : (first : World) (script : List Event) (full : Bool) (limit last : ℕ) (before later : List PortCall) → nat_eq last limit ≡ full → (script_machine first script).last ≤ limit
-    → AcceptsBelow full last (Some before) (Some later) → last ≡ (after first before).last → Plays script later → IsOn first script before
+    → AcceptsBelow full last before later → last ≡ (after first before).last → Plays script later → IsOn first script before
     → TakesNext first script (begins_open (left_in script before)) before later
 told_accept first script true limit last before later test numbers h latest p on =
     let at_limit : last ≡ limit = grind (arith, nat_tests, test) in
-    subst (TakesNext first script (begins_open (left_in script before)) before) (sym (same_Some later before h))
+    subst (TakesNext first script (begins_open (left_in script before)) before) (sym h)
     (accept-full first script before on (omega arith) (left_in script before) refl)
 told_accept first script false limit last before later test numbers h latest p on =
     subst (TakesNext first script (begins_open (left_in script before)) before) (sym h.1)

@@ -1,8 +1,9 @@
 -- What a run of the server answers, reads and writes.
-use Rattle.std.specs.Prelude.{ℕ, ◌≡◌, ◌≤◌, ◌+◌, nat_lt, List, [], ◌++◌, Option, Some, None, Result, Ok, Err, IfSome, IfOk, IsSomeAnd, length, flat_map, codes, decimal, if◌then◌else◌}
+use Rattle.std.specs.Prelude.{ℕ, ◌≡◌, ◌≤◌, ◌+◌, nat_lt, Bool, true, false, List, [], ◌++◌, Option, Some, None, Result, Ok, Err, IfSome, IfOk, IsSomeAnd, length, flat_map, codes, decimal}
 use Rattle.std.specs.List.{range_with_len}
 use Rattle.port_model.specs.declared.calls.PortCall.{PortCall}
 use Rattle.port_model.specs.declared.events.Event.{Event}
+use Rattle.port_model.specs.History.{sent}
 use Rattle.port_model.specs.Script.{script_events}
 use Rattle.port_model.specs.Streams.{Reads as IsReading}
 use Rattle.port_model.specs.Transcript.{session_lines}
@@ -15,7 +16,7 @@ use Rattle.mail_server.specs.declared.status.Status.TheVariants.{Done, Usage, No
 use Rattle.mail_server.specs.declared.words.Task.{Task}
 use Rattle.mail_server.specs.declared.words.Task.TheVariants.{Script, Canon}
 use Rattle.mail_server.specs.Script.{script_machine}
-use Rattle.mail_server.specs.Rounds.{script_sent, PlaysOut}
+use Rattle.mail_server.specs.Rounds.{PlaysOut}
 
 -- the number that the process ends with
 abbrev pub code_of : Status → ℕ
@@ -44,24 +45,19 @@ first_world = record {}
 abbrev pub transcript_of : ℕ → (ℕ → List ℕ) → List ℕ
 transcript_of last out = flat_map (λ number. session_lines number (out number)) (range_with_len 1 last)
 
--- what every session of a script is sent, one session after another
-abbrev pub transcript : List Event → List ℕ
-transcript script = transcript_of (script_machine first_world script).last (script_sent first_world script)
-
 -- the line that says of a script which line is bad
 abbrev pub bad_line : ℕ → List ℕ
 bad_line number = codes "bad line " ++ decimal number ++ codes "\n"
 
-abbrev pub end_of_events : Result (List Event) ℕ → End
-end_of_events (Ok events) = record { status = Done; lines = transcript events }
-end_of_events (Err number) = record { status = BadScript; lines = bad_line number }
-
--- The text is a script, and a history plays it to its end.
-pub record IsPlayedOut (text : List ℕ) : Type 0 where
-  pub events : List Event
-  pub says : script_events text ≡ Ok events
+-- A history plays a script to its end, and the lines are those of what was sent in it, one session after another.
+pub record IsPlayedOut (script : List Event) (lines : List ℕ) : Type 0 where
   pub calls : List PortCall
-  pub plays : PlaysOut first_world events calls
+  pub plays : PlaysOut first_world script calls
+  pub lines_are : lines ≡ transcript_of (script_machine first_world script).last (sent calls)
+
+abbrev pub EventsEnd : Result (List Event) ℕ → End → Type 0
+EventsEnd (Ok events) end = (end.status ≡ Done) × IsPlayedOut events end.lines
+EventsEnd (Err number) end = end ≡ record { status = BadScript; lines = bad_line number }
 
 -- The word `canon`
 
@@ -82,28 +78,28 @@ abbrev pub end_of_long : Task → End
 end_of_long Script = record { status = BadScript; lines = codes "bad script: too long\n" }
 end_of_long Canon = record { status = Refused; lines = codes "refused: message too long\n" }
 
-abbrev pub end_of_text : Task → List ℕ → ℕ → End
-end_of_text Script text now = end_of_events (script_events text)
-end_of_text Canon text now = record { status = Done; lines = canonical text now }
+abbrev pub TextEnds : Bool → Task → List ℕ → ℕ → End → Type 0
+TextEnds true task text now end = end ≡ end_of_long task
+TextEnds false Script text now end = EventsEnd (script_events text) end
+TextEnds false Canon text now end = end ≡ record { status = Done; lines = canonical text now }
 
 -- What a text has a run write and end with, at a moment of the clock. That it is too long comes first.
-unfoldable pub end_of : Task → List ℕ → ℕ → End
-end_of task text now = if nat_lt (limit_of task) (length text) then end_of_long task else end_of_text task text now
+unfoldable pub EndsAs : Task → List ℕ → ℕ → End → Type 0
+EndsAs task text now end = TextEnds (nat_lt (limit_of task) (length text)) task text now end
 
 -- The moment that a run takes of its clock, where its readings tell it. A script has moments of its own, and leaves the clock alone.
 abbrev pub TakesMoment : {C : Type 0} → (C → Option (List ℕ)) → Task → ℕ → C → C → Type 0
 TakesMoment readings Script now old new = new ≡ old
 TakesMoment readings Canon now old new = IsReading now (readings old) (readings new)
 
--- What is to be written, and how the run ends then.
-pub record IsAnswer (status : Status) (lines : List ℕ) (end : End) : Type 0 where
-  pub status_is : status ≡ end.status
-  pub lines_are : lines ≡ end.lines
+-- what is to be written, and how the run ends then
+abbrev pub end_of : Answer → End
+end_of answer = record { status = answer.status; lines = answer.lines.items }
 
 -- What a text has a run write at the moment that it takes, unless memory is refused.
 abbrev pub AnswersAt : {C E : Type 0} → (C → Option (List ℕ)) → Task → List ℕ → Result Answer E → C → C → Type 0
 AnswersAt readings task text result old new =
-    (now : ℕ) × TakesMoment readings task now old new × IfOk result (λ answer. IsAnswer answer.status answer.lines.items (end_of task text now))
+    (now : ℕ) × TakesMoment readings task now old new × IfOk result (λ answer. EndsAs task text now (end_of answer))
 
 -- These bytes were read from the front of what was left, where the source tells it, which it does afterwards as before.
 abbrev pub HasRead : List ℕ → Option (List ℕ) → Option (List ℕ) → Type 0

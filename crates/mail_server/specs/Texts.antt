@@ -7,7 +7,7 @@ use Rattle.mail_server.specs.declared.status.Status.TheVariants.{Done, Usage, No
 use Rattle.mail_server.specs.declared.words.Task.{Task}
 use Rattle.mail_server.specs.declared.words.Task.TheVariants.{Script, Canon}
 use Rattle.mail_server.specs.Outside.{Outside, Tells, WritesAll, StopsWriting}
-use Rattle.mail_server.specs.Run.{TakesMoment, ReadsText, ReadsUpTo, IsAtEnd, IsPlayedOut, limit_of, end_of}
+use Rattle.mail_server.specs.Run.{TakesMoment, End, ReadsText, ReadsUpTo, IsAtEnd, EndsAs, limit_of}
 
 -- The text is all that a source has left, where it tells it.
 abbrev pub IsText : List ℕ → Option (List ℕ) → Type 0
@@ -25,16 +25,20 @@ pub record TakesText {S K C : Type 0} (tells : Tells S K C) (task : Task) (text 
 pub record Answers {S K C : Type 0} (tells : Tells S K C) (task : Task) (status : Status) (old new : Outside S K C) : Type 0 where
   pub text : List ℕ
   pub now : ℕ
+  pub end : End
   pub takes : TakesText tells task text now old new
-  pub ends : status ≡ (end_of task text now).status
-  pub writes : WritesAll tells.written tells.write_faults (end_of task text now).lines old.sink new.sink
+  pub said : EndsAs task text now end
+  pub ends : status ≡ end.status
+  pub writes : WritesAll tells.written tells.write_faults end.lines old.sink new.sink
 
 -- A write failed of what the text has the run write.
 pub record StopsAnswering {S K C : Type 0} (tells : Tells S K C) (task : Task) (old new : Outside S K C) : Type 0 where
   pub text : List ℕ
   pub now : ℕ
+  pub end : End
   pub takes : TakesText tells task text now old new
-  pub stops : StopsWriting tells.written tells.write_faults (end_of task text now).lines old.sink new.sink
+  pub said : EndsAs task text now end
+  pub stops : StopsWriting tells.written tells.write_faults end.lines old.sink new.sink
 
 -- A read failed. Nothing was written, and the clock was left alone.
 pub record StopsReading {S K C : Type 0} (tells : Tells S K C) (old new : Outside S K C) : Type 0 where
@@ -50,7 +54,7 @@ pub record WantsMemory {S K C : Type 0} (tells : Tells S K C) (task : Task) (old
 
 -- How the word `script` ends: each status that it can end with, with its cause and what it leaves.
 abbrev pub ScriptEnds : {S K C : Type 0} → Tells S K C → Status → Outside S K C → Outside S K C → Type 0
-ScriptEnds tells Done old new = (answers : Answers tells Script Done old new) × IsAtEnd (tells.left new.source) × IsPlayedOut answers.text
+ScriptEnds tells Done old new = Answers tells Script Done old new × IsAtEnd (tells.left new.source)
 ScriptEnds tells BadScript old new = Answers tells Script BadScript old new
 ScriptEnds tells NoMemory old new = WantsMemory tells Script old new
 ScriptEnds tells ReadFault old new = StopsReading tells old new

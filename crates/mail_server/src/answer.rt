@@ -2,7 +2,7 @@
 
 ghost use Rattle.std.specs.Prelude.{◌≡◌, IfOk};
 ghost use Rattle.mail_server.specs.Outside.{EndsWriting};
-ghost use Rattle.mail_server.specs.Run.{IsAnswer};
+ghost use Rattle.mail_server.specs.Run.{end_of};
 
 use crate::status::Status;
 use crate::streams::write_all;
@@ -18,7 +18,7 @@ pub(crate) struct Answer {
 
 /// The answer of one line.
 pub(crate) fn one_line(alloc: Global, status: Status, line: &[u8]) -> Result<Answer, AllocError>
-    ensures { IfOk result (λ answer. IsAnswer answer.status answer.lines.items (record { status = status; lines = line.now })) }
+    ensures { IfOk result (λ answer. end_of answer ≡ record { status = status; lines = line.now }) }
 {
     Ok(Answer {
         status,

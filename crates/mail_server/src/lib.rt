@@ -4,6 +4,7 @@
 
 mod answer;
 mod canonical;
+mod laws;
 mod program;
 mod script;
 mod scripted;
@@ -12,5 +13,6 @@ mod stores;
 mod streams;
 mod words;
 
+pub use laws::one_history_plays_a_script;
 pub use mail_rounds::{LoadFault, RoundFault, Server, Unloaded};
 pub use program::run;

@@ -1,11 +1,10 @@
 //! The words of the program, and what each does.
 
-ghost use Rattle.std.specs.Prelude.{◌≡◌, map, string_bytes, IfOk, MatchResult};
+ghost use Rattle.std.specs.Prelude.{◌≡◌, map, string_bytes, MatchResult};
 ghost use Rattle.mail_server.specs.declared.status.Status.TheVariants.{Done, NoMemory};
-ghost use Rattle.mail_server.specs.declared.words.Task.TheVariants.{Script};
 ghost use Rattle.mail_server.specs.Does.{EndsRun};
 ghost use Rattle.mail_server.specs.Outside.{EndsWriting, outside, tells_of};
-ghost use Rattle.mail_server.specs.Run.{AnswersAt, IsPlayedOut};
+ghost use Rattle.mail_server.specs.Run.{AnswersAt};
 ghost use Rattle.mail_server.specs.Texts.{AnswersText};
 ghost use Rattle.mail_server.specs.Words.{command_of};
 
@@ -106,7 +105,6 @@ fn answer_text<D, C: Clock>(
     clock: &mut C,
 ) -> (Result<Answer, AllocError>, Files<D>)
     ensures answers { AnswersAt C.readings task text.now result.0 clock.old clock.new }
-    ensures plays { task ≡ Script → IfOk result.0 (λ answer. answer.status ≡ Done → IsPlayedOut text.now) }
     ensures files { result.1 ≡ files }
 {
     match task {

@@ -77,6 +77,7 @@ fn play_on<D>(
 /// Runs rounds until no event is left.
 fn run_rounds<D>(server: &mut Server<D>, ports: &mut ScriptPorts) -> Result<(), AllocError>
     requires unspent { server.old.spent ≡ false }
+    requires kept { AreEvents ports.old.plan.events }
     requires on_script { IsOnScript first_world ports.old.plan.events ports.old (held server.old) }
     ensures on_script { OnOk result (IsOnScript first_world ports.old.plan.events ports.new (held server.new)) }
     ensures done { OnOk result ((playing ports.new.plan ports.new.calls).left ≡ []) }

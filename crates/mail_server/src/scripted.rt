@@ -1,13 +1,11 @@
 //! What a script has written.
 
-ghost use Rattle.std.specs.Prelude.{ℕ, ◌≡◌, List, Ok, Err, IfOk, false};
-ghost use Rattle.port_model.specs.declared.calls.PortCall.{PortCall};
+ghost use Rattle.std.specs.Prelude.{ℕ, ◌≡◌, Ok, Err, IfOk, false};
 ghost use Rattle.port_model.specs.History.{sent};
 ghost use Rattle.port_model.specs.Script.{AreEvents};
 ghost use Rattle.mail_server.specs.declared.status.Status.TheVariants.{Done};
 ghost use Rattle.mail_server.specs.declared.words.Task.TheVariants.{Script};
-ghost use Rattle.mail_server.specs.Rounds.{PlaysOut};
-ghost use Rattle.mail_server.specs.Run.{End, IsAnswer, first_world, IsPlayedOut, end_of_events, end_of, transcript_of, bad_line};
+ghost use Rattle.mail_server.specs.Run.{EndsAs, EventsEnd, end_of, transcript_of};
 
 use crate::answer::{Answer, one_line};
 use crate::script::{Played, play};
@@ -25,8 +23,7 @@ pub(crate) fn answer_script<D>(
     text: &[u8],
     files: Files<D>,
 ) -> (Result<Answer, AllocError>, Files<D>)
-    ensures answers { (now : ℕ) → IfOk result.0 (λ answer. IsAnswer answer.status answer.lines.items (end_of Script text.now now)) }
-    ensures plays { IfOk result.0 (λ answer. answer.status ≡ Done → IsPlayedOut text.now) }
+    ensures answers { (now : ℕ) → IfOk result.0 (λ answer. EndsAs Script text.now now (end_of answer)) }
     ensures files { result.1 ≡ files }
 {
     if text.len() > MOST_BYTES {
@@ -47,8 +44,7 @@ fn answer_events<D>(
     files: Files<D>,
 ) -> (Result<Answer, AllocError>, Files<D>)
     requires kept { AreEvents events.items }
-    ensures answers { IfOk result.0 (λ answer. IsAnswer answer.status answer.lines.items (end_of_events (Ok events.items))) }
-    ensures plays { IfOk result.0 (λ _. (calls : List PortCall) × PlaysOut first_world events.items calls) }
+    ensures answers { IfOk result.0 (λ answer. EventsEnd (Ok events.items) (end_of answer)) }
     ensures files { result.1 ≡ files }
 {
     let (played, files) = play(alloc, files, events);
@@ -78,7 +74,7 @@ fn print_played(alloc: Global, played: &Played) -> Result<Answer, AllocError>
 
 /// The answer to a script whose line of this number is bad.
 fn name_bad_line(alloc: Global, number: u64) -> Result<Answer, AllocError>
-    ensures { IfOk result (λ answer. IsAnswer answer.status answer.lines.items (end_of_events (Err number))) }
+    ensures { IfOk result (λ answer. EventsEnd (Err number) (end_of answer)) }
 {
     let line = format!(in alloc; "bad line {number}\n")?;
     Ok(Answer {

@@ -6,4 +6,4 @@ pub returns-in-Ok : goal.returns-in-Ok
 returns-in-Ok g c =
     answered (tells_of g.S.Source.left g.S.Source.faults g.K.Sink.written g.K.Sink.faults g.C.Clock.readings) c.args.task c.limit.result c.in-Ok.text.items c.deref.result.now
     c.answer_text-answer.result.0 c.write_answer.result (outside c.args.source.now c.args.sink.now c.args.clock.now) (outside c.read_all.new.source c.write_answer.new.sink c.answer_text-answer.new.clock)
-    c.args.files c.answer_text-answer.result.1 c.limit.ensures.limit c.deref.ensures.value c.in-Ok.ensures.read c.in-Ok.ensures.quiet c.answer_text-answer.ensures.answers c.write_answer.ensures c.answer_text-answer.ensures.plays c.answer_text-answer.ensures.files
+    c.args.files c.answer_text-answer.result.1 c.limit.ensures.limit c.deref.ensures.value c.in-Ok.ensures.read c.in-Ok.ensures.quiet c.answer_text-answer.ensures.answers c.write_answer.ensures c.answer_text-answer.ensures.files

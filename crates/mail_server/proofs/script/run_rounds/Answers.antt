@@ -2,7 +2,7 @@ use Rattle.std.proofs.Common.{◌≡◌, ◌≢◌, true, false, [], is_err, sym
 use Rattle.port_model.specs.Playing.{playing}
 use Rattle.mail_rounds.specs.Held.{held}
 use Rattle.mail_server.specs.Run.{first_world}
-use Rattle.mail_server.proofs.Progress.{round_goes_on, on_ok}
+use Rattle.mail_server.proofs.Playing.{round_goes_on, on_ok}
 use Rattle.mail_server.proofs.script.run_rounds.Goals as goal
 
 pub rounds-preserved : goal.rounds-preserved
@@ -13,7 +13,7 @@ rounds-preserved g c =
     λ e. let ended : c.done.result ≡ true = (c.done.ensures.left c.rounds.invariant.on_script.told).1 e in absurd (cc (c.rounds-test.true, ended)) in
     record {
       unspent = c.round.ensures.spent ∙ went;
-      on_script = (round_goes_on first_world c.args.ports.now.plan.events c.rounds.ports c.round.new.ports (held c.rounds.server) (held c.round.new.self)
+      on_script = (round_goes_on first_world c.args.ports.now.plan.events c.rounds.ports c.round.new.ports (held c.rounds.server) (held c.round.new.self) c.requires.kept
           (on_ok c.round.result went c.round.ensures.calls) (on_ok c.round.result went c.round.ensures.keeps) c.round.ensures.plan told (c.starved.ensures.answers told)
           c.rounds.invariant.on_script some).0;
       files = c.round.ensures.files ∙ c.rounds.invariant.files;
@@ -25,6 +25,6 @@ rounds-smaller g c =
     let told : c.round.new.ports.starved ≡ false = sym c.starved.ensures.starved ∙ c.if-starved.false in
     let some : (playing c.rounds.ports.plan c.rounds.ports.calls).left ≢ [] =
     λ e. let ended : c.done.result ≡ true = (c.done.ensures.left c.rounds.invariant.on_script.told).1 e in absurd (cc (c.rounds-test.true, ended)) in
-    (round_goes_on first_world c.args.ports.now.plan.events c.rounds.ports c.round.new.ports (held c.rounds.server) (held c.round.new.self)
+    (round_goes_on first_world c.args.ports.now.plan.events c.rounds.ports c.round.new.ports (held c.rounds.server) (held c.round.new.self) c.requires.kept
     (on_ok c.round.result went c.round.ensures.calls) (on_ok c.round.result went c.round.ensures.keeps) c.round.ensures.plan told (c.starved.ensures.answers told)
     c.rounds.invariant.on_script some).1

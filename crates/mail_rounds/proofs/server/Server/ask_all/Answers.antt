@@ -1,6 +1,7 @@
 use Rattle.std.proofs.Common.{◌<◌, ◌+◌, length, sym, ◌∙◌, arith}
 use Rattle.std.specs.List.{slice_get}
 use Rattle.mail_rounds.specs.Calls.{Asks}
+use Rattle.mail_rounds.specs.Held.{AtLink}
 use Rattle.mail_rounds.proofs.Chains.{chain_more, never_falls}
 use Rattle.mail_rounds.proofs.server.Server.ask_all.Goals as goal
 
@@ -13,7 +14,7 @@ asks-preserved g c =
       plan = step.plan ∙ so_far.plan;
       counts = never_falls _ _ _ _ _ _ so_far.counts step.counts;
       quiet = step.quiet ∙ so_far.quiet;
-      calls = chain_more Asks c.args.self.now.links.items c.asks.i (slice_get c.asks.self.links.items c.asks.i) _ _ _ so_far.calls within
+      calls = chain_more (AtLink Asks) c.args.self.now.links.items c.asks.i (slice_get c.asks.self.links.items c.asks.i) _ _ _ so_far.calls within
           (sym (so_far.others c.asks.i (omega arith))) step.calls;
       keeps = λ first serving. step.keeps first (so_far.keeps first serving);
       others = λ k above. step.others k (omega (arith, above)) ∙ so_far.others k (omega (arith, above));
@@ -28,6 +29,6 @@ returns-in_err-ask-clause-part g c =
     let within : c.asks.i < length c.args.self.now.links.items = omega arith in (
       c.asks.i + 1,
       omega arith,
-      chain_more Asks c.args.self.now.links.items c.asks.i (slice_get c.asks.self.links.items c.asks.i) _ _ _ so_far.calls within
+      chain_more (AtLink Asks) c.args.self.now.links.items c.asks.i (slice_get c.asks.self.links.items c.asks.i) _ _ _ so_far.calls within
           (sym (so_far.others c.asks.i (omega arith))) c.in_err-ask.ensures.calls,
     )

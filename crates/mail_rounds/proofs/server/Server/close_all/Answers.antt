@@ -2,6 +2,7 @@ use Rattle.std.proofs.Common.{ℕ, ◌≡◌, ◌<◌, ◌+◌, ◌-◌, length,
 use Rattle.std.specs.List.{slice_get}
 use Rattle.port_model.specs.Chain.{Chain}
 use Rattle.mail_rounds.specs.Calls.{Closes}
+use Rattle.mail_rounds.specs.Held.{AtLink}
 use Rattle.mail_rounds.proofs.Chains.{chain_more, never_falls, rest-more, rest-at}
 use Rattle.mail_rounds.proofs.server.Server.close_all.Goals as goal
 
@@ -20,8 +21,8 @@ closing-preserved g c =
       within = step.within.0;
       fewer = omega (arith, step.within.1);
       rest = step.rest ∙ rest-more c.closing.self.links.items c.args.self.now.links.items c.closing.i looked so_far.rest ∙ ap (λ (k : ℕ). drop k c.args.self.now.links.items) one_more;
-      calls = subst (λ (k : ℕ). Chain Closes (take k c.args.self.now.links.items) (g.P.Ports.history c.args.ports.now) (g.P.Ports.history c.close_or_pass-i.new.ports)) one_more
-          (chain_more Closes c.args.self.now.links.items looked (slice_get c.closing.self.links.items c.closing.i) _ _ _ so_far.calls within
+      calls = subst (λ (k : ℕ). Chain (AtLink Closes) (take k c.args.self.now.links.items) (g.P.Ports.history c.args.ports.now) (g.P.Ports.history c.close_or_pass-i.new.ports)) one_more
+          (chain_more (AtLink Closes) c.args.self.now.links.items looked (slice_get c.closing.self.links.items c.closing.i) _ _ _ so_far.calls within
           (sym (rest-at c.closing.self.links.items c.args.self.now.links.items c.closing.i looked so_far.rest)) step.calls);
       keeps = λ first serving. step.keeps first (so_far.keeps first serving);
       files = step.files ∙ so_far.files;

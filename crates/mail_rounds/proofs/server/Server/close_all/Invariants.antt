@@ -1,7 +1,7 @@
 use Rattle.std.proofs.Common.{◌≡◌, ◌≤◌, ◌+◌, ◌-◌, length, take, drop}
 use Rattle.port_model.specs.Ports.{NeverFall}
 use Rattle.port_model.specs.Chain.{Chain}
-use Rattle.mail_rounds.specs.Held.{held}
+use Rattle.mail_rounds.specs.Held.{held, AtLink}
 use Rattle.mail_rounds.specs.Calls.{Closes}
 use Rattle.mail_rounds.specs.Serves.{Keeps}
 use Rattle.mail_rounds.proofs.server.Server.close_all.Given as goal
@@ -15,7 +15,7 @@ invariant-closing g l = record {
   within : l.i ≤ length l.self.links.items;
   fewer : length l.self.links.items ≤ length l.fn.self.links.items;
   rest : drop l.i l.self.links.items ≡ drop (l.i + (length l.fn.self.links.items - length l.self.links.items)) l.fn.self.links.items;
-  calls : Chain Closes (take (l.i + (length l.fn.self.links.items - length l.self.links.items)) l.fn.self.links.items) (g.P.Ports.history l.fn.ports) (g.P.Ports.history l.ports);
+  calls : Chain (AtLink Closes) (take (l.i + (length l.fn.self.links.items - length l.self.links.items)) l.fn.self.links.items) (g.P.Ports.history l.fn.ports) (g.P.Ports.history l.ports);
   keeps : Keeps (g.P.Ports.history l.fn.ports) (held l.fn.self) (g.P.Ports.history l.ports) (held l.self);
   files : l.self.files ≡ l.fn.self.files;
   spent : l.self.spent ≡ l.fn.self.spent;

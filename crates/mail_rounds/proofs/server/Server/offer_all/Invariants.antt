@@ -2,7 +2,7 @@ use Rattle.std.proofs.Common.{ℕ, ◌≡◌, ◌≤◌, length, take}
 use Rattle.std.specs.List.{slice_get}
 use Rattle.port_model.specs.Ports.{NeverFall}
 use Rattle.port_model.specs.Chain.{Chain}
-use Rattle.mail_rounds.specs.Held.{held}
+use Rattle.mail_rounds.specs.Held.{held, AtLink}
 use Rattle.mail_rounds.specs.Calls.{Offers}
 use Rattle.mail_rounds.specs.Serves.{Keeps}
 use Rattle.mail_rounds.proofs.server.Server.offer_all.Given as goal
@@ -13,7 +13,7 @@ invariant-offers g l = record {
   plan : g.P.Ports.plan l.ports ≡ g.P.Ports.plan l.fn.ports;
   counts : NeverFall (g.P.Ports.listen_faults l.fn.ports) (g.P.Ports.link_faults l.fn.ports) (g.P.Ports.listen_faults l.ports) (g.P.Ports.link_faults l.ports);
   quiet : g.P.Ports.listen_faults l.ports ≡ g.P.Ports.listen_faults l.fn.ports;
-  calls : Chain Offers (take l.i l.fn.self.links.items) (g.P.Ports.history l.fn.ports) (g.P.Ports.history l.ports);
+  calls : Chain (AtLink Offers) (take l.i l.fn.self.links.items) (g.P.Ports.history l.fn.ports) (g.P.Ports.history l.ports);
   keeps : Keeps (g.P.Ports.history l.fn.ports) (held l.fn.self) (g.P.Ports.history l.ports) (held l.self);
   others : (k : ℕ) → l.i ≤ k → slice_get l.self.links.items k ≡ slice_get l.fn.self.links.items k;
   count : length l.self.links.items ≡ length l.fn.self.links.items;
