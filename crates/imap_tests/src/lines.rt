@@ -1,9 +1,11 @@
 //! Lines of answers.
 use imap_grammar::{Flag, StatusItem};
 use imap_writer::{
-    Refusal, Told, Value, flag_list, push_exists, push_expunge, push_fetch, push_flag_names,
-    push_highest, push_list, push_permanent, push_recent, push_status, push_uidnext,
-    push_uidvalidity, push_unseen, push_vanished, tagged_no, tagged_ok, text, uid_set,
+    Extension, MessageData, Refusal, StatusData, flag_list, push_append_code, push_closed,
+    push_copy_code, push_enabled, push_exists, push_expunge, push_fetch, push_flag_names,
+    push_highest, push_highest_code, push_list, push_modified_code, push_permanent, push_recent,
+    push_search, push_sort, push_status, push_uidnext, push_uidvalidity, push_unseen,
+    push_vanished, tagged_no, tagged_ok, text, uid_set,
 };
 use octets::Octets;
 use std::alloc::{AllocError, Global};
@@ -91,16 +93,18 @@ fn texts_and_sets(rt: HostRuntime) -> Result<(), Fail> {
     Ok(())
 }
 
-// RFC 3501 §6.3.1 and §7.2, but for the remarks; RFC 4551 §3.1.1, RFC 5162 §3.6.
+// RFC 3501 §6.3.1 and §7.2, but for the remarks; RFC 4551 §3.1.1, §3.4, RFC 5162 §3.6, §3.7, RFC 5161 §3.2, RFC 5256 §4.
 const LINES: &[u8] =
-    b"* 172 EXISTS\r\n* 1 RECENT\r\n* FLAGS (\\Answered $fwd)\r\n* OK [UNSEEN 12] first unseen\r\n\
+    b"* OK [CLOSED] closed\r\n* 172 EXISTS\r\n* 1 RECENT\r\n* FLAGS (\\Answered $fwd)\r\n* OK [UNSEEN 12] first unseen\r\n\
     * OK [PERMANENTFLAGS (\\Answered $fwd \\*)] kept\r\n* OK [PERMANENTFLAGS ()] kept\r\n* OK [UIDNEXT 4392] next\r\n\
     * OK [UIDVALIDITY 3857529045] valid\r\n* OK [HIGHESTMODSEQ 715194045007] highest\r\n* VANISHED (EARLIER) 300:302,310\r\n\
-    * VANISHED 5\r\n* 44 EXPUNGE\r\n* LIST () \"/\" \"a\"\r\n* LSUB (\\Noselect) \"/\" \"\"\r\n\
+    * VANISHED 5\r\n* 44 EXPUNGE\r\n\
+    * ENABLED CONDSTORE QRESYNC\r\n* ENABLED\r\n* SEARCH 2 5 23 (MODSEQ 917162500)\r\n* SEARCH\r\n* SORT 2 84 882\r\n* LIST () \"/\" \"a\"\r\n* LSUB (\\Noselect) \"/\" \"\"\r\n\
     * STATUS \"blurdy\" (MESSAGES 231 UIDNEXT 44292)\r\n\
     * 23 FETCH (UID 7 FLAGS (\\Answered $fwd) RFC822.SIZE 44827 MODSEQ (65402) INTERNALDATE \"17-Jul-1996 02:44:25 -0700\" BODY[] {2}\r\n\"x BODY[2] NIL ENVELOPE (NIL))\r\n";
 
 fn push_selected(out: &mut Vec<u8>, flags: &[Flag]) -> Result<(), AllocError> {
+    push_closed(out)?;
     push_exists(out, 172)?;
     push_recent(out, 1)?;
     push_flag_names(out, flags)?;
@@ -116,17 +120,22 @@ fn push_others(out: &mut Vec<u8>, flags: &[Flag]) -> Result<(), AllocError> {
     push_vanished(out, true, &[300, 301, 302, 310])?;
     push_vanished(out, false, &[5])?;
     push_expunge(out, 44)?;
+    push_enabled(out, &[Extension::Condstore, Extension::Qresync])?;
+    push_enabled(out, &[])?;
+    push_search(out, &[2, 5, 23], Some(917_162_500))?;
+    push_search(out, &[], None)?;
+    push_sort(out, &[2, 84, 882], None)?;
     push_list(out, false, true, b"a")?;
     push_list(out, true, false, b"")?;
     push_status(
         out,
         b"blurdy",
         &[
-            Told {
+            StatusData {
                 item: StatusItem::Messages,
                 number: 231,
             },
-            Told {
+            StatusData {
                 item: StatusItem::Uidnext,
                 number: 44_292,
             },
@@ -136,20 +145,20 @@ fn push_others(out: &mut Vec<u8>, flags: &[Flag]) -> Result<(), AllocError> {
         out,
         23,
         &[
-            Value::Uid(7),
-            Value::Flags {
+            MessageData::Uid(7),
+            MessageData::Flags {
                 flags,
                 recent: false,
             },
-            Value::Size(44_827),
-            Value::Modseq(65_402),
-            Value::InternalDate(b"17-Jul-1996 02:44:25 -0700"),
-            Value::Bytes {
+            MessageData::Size(44_827),
+            MessageData::Modseq(65_402),
+            MessageData::InternalDate(b"17-Jul-1996 02:44:25 -0700"),
+            MessageData::Bytes {
                 item: b"BODY[]",
                 bytes: b"\"x",
             },
-            Value::Absent(b"BODY[2]"),
-            Value::Printed {
+            MessageData::Absent(b"BODY[2]"),
+            MessageData::Printed {
                 item: b"ENVELOPE",
                 text: b"(NIL)",
             },
@@ -166,6 +175,29 @@ fn all_lines(alloc: Global) -> Result<Vec<u8>, AllocError> {
     push_selected(&mut out, &flags)?;
     push_others(&mut out, &flags)?;
     Ok(out)
+}
+
+// RFC 4315 §3, RFC 4551 §3.2, RFC 5162 §3.5, with a space before each.
+const CODES: &[u8] =
+    b" APPENDUID 38505 3955 COPYUID 38505 304,319:320 3956:3958 MODIFIED 7,9 HIGHESTMODSEQ 20010715194045319";
+
+fn all_codes(alloc: Global) -> Result<Vec<u8>, AllocError> {
+    let mut out = Vec::new(alloc);
+    out.extend_from_slice(b" ")?;
+    push_append_code(&mut out, 38_505, 3955)?;
+    out.extend_from_slice(b" ")?;
+    push_copy_code(&mut out, 38_505, &[304, 319, 320], &[3956, 3957, 3958])?;
+    out.extend_from_slice(b" ")?;
+    push_modified_code(&mut out, &[7, 9])?;
+    out.extend_from_slice(b" ")?;
+    push_highest_code(&mut out, 20_010_715_194_045_319)?;
+    Ok(out)
+}
+
+#[test]
+fn codes_of_answers(rt: HostRuntime) -> Result<(), Fail> {
+    assert_eq!(rt; all_codes(rt.alloc())?.as_slice(), CODES);
+    Ok(())
 }
 
 #[test]

@@ -7,3 +7,6 @@ pub mod Flags
 pub mod Lines
 pub mod Statuses
 pub mod Fetches
+pub mod Enabled
+pub mod Found
+pub mod Codes

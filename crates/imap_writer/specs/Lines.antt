@@ -1,4 +1,4 @@
--- Lines of the answers to SELECT and LIST, and of notices (RFC 3501 §7.1 to §7.4, RFC 4551 §3.1, RFC 5162 §3.6).
+-- Lines of the answers to SELECT and LIST, and of notices (RFC 3501 §7.1 to §7.4, RFC 4551 §3.1, RFC 5162 §3.6, §3.7).
 use Rattle.std.specs.Prelude.{ℕ, Bool, false, List, [], ◌∷◌, ◌++◌, map, codes, decimal, if◌then◌else◌}
 use Rattle.imap_grammar.specs.declared.flags.Flag.{Flag}
 use Rattle.imap_grammar.specs.Flags.{flag_text}
@@ -35,6 +35,10 @@ uidvalidity_line n = remarked (codes "UIDVALIDITY") n (codes "valid")
 
 unfoldable pub highest_line : ℕ → List ℕ
 highest_line n = remarked (codes "HIGHESTMODSEQ") n (codes "highest")
+
+-- The mailbox that was selected before is so no more (RFC 5162 §3.7).
+unfoldable pub closed_line : List ℕ
+closed_line = codes "* OK [CLOSED] closed\r\n"
 
 -- The flags that messages of the mailbox have.
 unfoldable pub flags_line : List Flag → List ℕ

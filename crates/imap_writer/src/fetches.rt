@@ -1,6 +1,6 @@
 //! The answers to FETCH.
 ghost use Rattle.std.specs.Prelude.{◌≡◌, ◌++◌, OnOk, decimal};
-ghost use Rattle.imap_writer.specs.Fetches.{fetch_line, size_text, value_text};
+ghost use Rattle.imap_writer.specs.Fetches.{fetch_line, size_text, message_data_text};
 
 use crate::flags::push_flags;
 use crate::spaced::{Shown, print_spaced};
@@ -10,7 +10,7 @@ use std::alloc::AllocError;
 
 /// An item of FETCH with its value.
 #[derive(Clone, Copy)]
-pub enum Value<'a> {
+pub enum MessageData<'a> {
     Uid(u32),
     Flags { flags: &'a [Flag], recent: bool },
     Modseq(u64),
@@ -26,40 +26,40 @@ pub enum Value<'a> {
     Printed { item: &'a [u8], text: &'a [u8] },
 }
 
-impl<'a> Shown for Value<'a> {
-    ghost text_of = { value_text };
+impl<'a> Shown for MessageData<'a> {
+    ghost text_of = { message_data_text };
 
     fn print(&self, out: &mut Vec<u8>) -> Result<(), AllocError> {
         match self {
-            Value::Uid(uid) => {
+            MessageData::Uid(uid) => {
                 out.extend_from_slice(b"UID ")?;
                 push_number(out, u64::from(*uid))
             }
-            Value::Flags { flags, recent } => {
+            MessageData::Flags { flags, recent } => {
                 out.extend_from_slice(b"FLAGS ")?;
                 push_flags(out, flags, *recent)
             }
-            Value::Modseq(modseq) => {
+            MessageData::Modseq(modseq) => {
                 out.extend_from_slice(b"MODSEQ (")?;
                 push_number(out, *modseq)?;
                 out.extend_from_slice(b")")
             }
-            Value::Size(size) => push_size(out, *size),
-            Value::InternalDate(date) => {
+            MessageData::Size(size) => push_size(out, *size),
+            MessageData::InternalDate(date) => {
                 out.extend_from_slice(b"INTERNALDATE \"")?;
                 out.extend_from_slice(date.as_slice())?;
                 out.extend_from_slice(b"\"")
             }
-            Value::Bytes { item, bytes } => {
+            MessageData::Bytes { item, bytes } => {
                 out.extend_from_slice(item)?;
                 out.extend_from_slice(b" ")?;
                 push_literal(out, bytes)
             }
-            Value::Absent(item) => {
+            MessageData::Absent(item) => {
                 out.extend_from_slice(item)?;
                 out.extend_from_slice(b" NIL")
             }
-            Value::Printed { item, text } => {
+            MessageData::Printed { item, text } => {
                 out.extend_from_slice(item)?;
                 out.extend_from_slice(b" ")?;
                 out.extend_from_slice(text)
@@ -83,7 +83,11 @@ fn push_named(out: &mut Vec<u8>, name: &[u8], number: u64) -> Result<(), AllocEr
 
 /// `* n FETCH (..)`: what a message has, in the order given.
 #[tactic(auto, unfolding(crate::specs::Fetches::fetch_line))]
-pub fn push_fetch(out: &mut Vec<u8>, number: u32, values: &[Value<'_>]) -> Result<(), AllocError>
+pub fn push_fetch(
+    out: &mut Vec<u8>,
+    number: u32,
+    values: &[MessageData<'_>],
+) -> Result<(), AllocError>
     ensures { OnOk result (out.new.items ≡ out.old.items ++ fetch_line number values.now) }
 {
     out.extend_from_slice(b"* ")?;

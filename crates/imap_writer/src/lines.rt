@@ -1,6 +1,6 @@
 //! Lines of the answers to SELECT and LIST, and of notices.
 ghost use Rattle.std.specs.Prelude.{◌≡◌, ◌++◌, OnOk};
-ghost use Rattle.imap_writer.specs.Lines.{changeable, counted, exists_line, expunge_line, flags_line, highest_line, list_line, permanent_line, recent_line, remarked, uidnext_line, uidvalidity_line, unseen_line, vanished_line};
+ghost use Rattle.imap_writer.specs.Lines.{changeable, closed_line, counted, exists_line, expunge_line, flags_line, highest_line, list_line, permanent_line, recent_line, remarked, uidnext_line, uidvalidity_line, unseen_line, vanished_line};
 
 use crate::flags::{print_with, push_flags};
 use crate::runs::push_set;
@@ -89,6 +89,14 @@ pub fn push_highest(out: &mut Vec<u8>, modseq: u64) -> Result<(), AllocError>
     ensures { OnOk result (out.new.items ≡ out.old.items ++ highest_line modseq) }
 {
     push_remarked(out, b"HIGHESTMODSEQ", modseq, b"highest")
+}
+
+/// The mailbox that was selected before is so no more; what follows is of the one that is selected now (RFC 5162 §3.7).
+#[tactic(auto, unfolding(crate::specs::Lines::closed_line))]
+pub fn push_closed(out: &mut Vec<u8>) -> Result<(), AllocError>
+    ensures { OnOk result (out.new.items ≡ out.old.items ++ closed_line) }
+{
+    out.extend_from_slice(b"* OK [CLOSED] closed\r\n")
 }
 
 /// `* FLAGS (..)`: the flags that messages of the mailbox have.

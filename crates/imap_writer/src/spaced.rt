@@ -23,7 +23,7 @@ pub(crate) fn print_spaced<T: Shown>(out: &mut Vec<u8>, all: &[T]) -> Result<(),
 }
 
 /// Each behind a space.
-fn print_behind<T: Shown>(out: &mut Vec<u8>, all: &[T]) -> Result<(), AllocError>
+pub(crate) fn print_behind<T: Shown>(out: &mut Vec<u8>, all: &[T]) -> Result<(), AllocError>
     ensures { OnOk result (out.new.items ≡ out.old.items ++ flat_map behind_space (map T.text_of all.now)) }
 {
     for one in all {

@@ -1,7 +1,7 @@
 //! The answer to STATUS.
 ghost use Rattle.std.specs.Prelude.{◌≡◌, ◌++◌, OnOk};
 ghost use Rattle.imap_grammar.specs.StatusItems.{status_text};
-ghost use Rattle.imap_writer.specs.Statuses.{status_line, told_text};
+ghost use Rattle.imap_writer.specs.Statuses.{status_line, status_data_text};
 
 use crate::spaced::{Shown, print_spaced};
 use crate::texts::{push_number, push_text};
@@ -10,7 +10,7 @@ use std::alloc::AllocError;
 
 /// An item of STATUS with its number.
 #[derive(Clone, Copy, Debug, PartialEq, Eq)]
-pub struct Told {
+pub struct StatusData {
     pub item: StatusItem,
     pub number: u64,
 }
@@ -28,8 +28,8 @@ fn name_of(item: StatusItem) -> &'static [u8]
     }
 }
 
-impl Shown for Told {
-    ghost text_of = { told_text };
+impl Shown for StatusData {
+    ghost text_of = { status_data_text };
 
     fn print(&self, out: &mut Vec<u8>) -> Result<(), AllocError> {
         out.extend_from_slice(name_of(self.item))?;
@@ -40,7 +40,7 @@ impl Shown for Told {
 
 /// `* STATUS "name" (ITEM n ..)`: the numbers of a mailbox, in the order given.
 #[tactic(auto, unfolding(crate::specs::Statuses::status_line))]
-pub fn push_status(out: &mut Vec<u8>, name: &[u8], all: &[Told]) -> Result<(), AllocError>
+pub fn push_status(out: &mut Vec<u8>, name: &[u8], all: &[StatusData]) -> Result<(), AllocError>
     ensures { OnOk result (out.new.items ≡ out.old.items ++ status_line name.now all.now) }
 {
     out.extend_from_slice(b"* STATUS ")?;
