@@ -1,0 +1,22 @@
+//! The calls by which users and mailboxes are found and change, over the rows of a store.
+//!
+//! Where the tables stand for a world, each call that changes something is one change of that world: refused with its first reason,
+//! or made, in the tables and in the files, so that a crash at any moment leaves the world before or after it. Over tables that
+//! stand for no world it ends too, takes no user and no mailbox away, and changes no owner.
+#![tactic(auto)]
+
+mod adding;
+mod faults;
+mod finishing;
+pub mod laws;
+mod look_ups;
+mod looking;
+mod names;
+mod new_rows;
+mod rooms;
+mod verifiers;
+
+pub use adding::add_user;
+pub use faults::MailFault;
+pub use looking::{find, login, user_of};
+pub use names::is_user_name;

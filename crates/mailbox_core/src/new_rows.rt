@@ -1,0 +1,70 @@
+//! Rows of new users and mailboxes.
+
+ghost use Rattle.std.specs.Prelude.{◌≡◌, ◌+◌, length, IfOk};
+ghost use Rattle.mail_world.specs.Users.{next_id};
+ghost use Rattle.mail_stands.specs.RowChanges.{add_user_changes};
+ghost use Rattle.mailbox_core.specs.Looking.{verifier_of};
+
+use crate::verifiers::verifier;
+use octets::Octets;
+use row_tables::{Counters, Mailbox, RowChange, Tables, User};
+use std::alloc::{AllocError, Global};
+
+// The id of the next mailbox, 0 once the last is given.
+pub(crate) fn next_mailbox(tables: &Tables) -> u32
+    ensures { result ≡ tables.now.heads.counters.next }
+{
+    match tables.counters_row(()) {
+        Some(counters) => counters.next,
+        None => unreachable!(),
+    }
+}
+
+// The changes that add the next user.
+pub(crate) fn user_changes(
+    alloc: Global,
+    tables: &Tables,
+    id: u32,
+    name: &[u8],
+    password: &[u8],
+) -> Result<Vec<RowChange>, AllocError>
+    requires { id ≡ length tables.now.heads.users + 1 }
+    ensures { IfOk result (λ changes. changes.items ≡ add_user_changes tables.now name.now (verifier_of name.now password.now)) }
+{
+    let next = next_mailbox(tables);
+    let user = User {
+        id,
+        name: Octets::new(name.to_vec(alloc)?),
+        verifier: verifier(name, password),
+    };
+    let mailbox = empty_mailbox(alloc, next, id, b"INBOX")?;
+    let mut changes = Vec::new(alloc);
+    changes.push(RowChange::InsertUser(user))?;
+    changes.push(RowChange::InsertMailbox(mailbox))?;
+    changes.push(RowChange::UpdateCounters(Counters {
+        next: id_after(next),
+    }))?;
+    Ok(changes)
+}
+
+// A mailbox as it is made.
+fn empty_mailbox(alloc: Global, id: u32, owner: u32, name: &[u8]) -> Result<Mailbox, AllocError>
+    ensures { IfOk result (λ mailbox. mailbox
+        ≡ record { id = id; owner = owner; name = name.now; uidnext = 1; first_recent = 1; highest = 1 }) }
+{
+    Ok(Mailbox {
+        id,
+        owner,
+        name: Octets::new(name.to_vec(alloc)?),
+        uidnext: 1,
+        first_recent: 1,
+        highest: 1,
+    })
+}
+
+// The id of the mailbox after one.
+fn id_after(id: u32) -> u32
+    ensures { result ≡ next_id id }
+{
+    if id == u32::MAX { 0 } else { id + 1 }
+}
