@@ -8,10 +8,10 @@ mod Owners
 mod Heading
 mod Deleting
 mod Subscribing
+mod Written
 mod FlagTexts
 mod OneWorld
 mod Naming
-mod Written
 mod Counting
 mod Staying
 mod Flags
