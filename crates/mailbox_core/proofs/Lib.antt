@@ -2,7 +2,8 @@ pub mod Leaving
 pub mod Reopening
 pub mod Owners
 pub mod Behaving
-pub mod UserNames
+pub mod Lengths
 pub mod Found
 pub mod Planning
 pub mod Planned
+pub mod Splitting

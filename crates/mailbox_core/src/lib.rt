@@ -16,7 +16,7 @@ mod new_rows;
 mod rooms;
 mod verifiers;
 
-pub use adding::add_user;
+pub use adding::{add_user, create};
 pub use faults::MailFault;
 pub use looking::{find, login, user_of};
 pub use names::is_user_name;

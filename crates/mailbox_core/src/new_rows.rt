@@ -1,8 +1,8 @@
 //! Rows of new users and mailboxes.
 
-ghost use Rattle.std.specs.Prelude.{◌≡◌, ◌+◌, length, IfOk};
+ghost use Rattle.std.specs.Prelude.{◌≡◌, ◌+◌, ◌++◌, length, IfOk, OnOk};
 ghost use Rattle.mail_world.specs.Users.{next_id};
-ghost use Rattle.mail_stands.specs.RowChanges.{add_user_changes};
+ghost use Rattle.mail_stands.specs.RowChanges.{add_user_changes, create_changes};
 ghost use Rattle.mailbox_core.specs.Looking.{verifier_of};
 
 use crate::verifiers::verifier;
@@ -31,20 +31,48 @@ pub(crate) fn user_changes(
     requires { id ≡ length tables.now.heads.users + 1 }
     ensures { IfOk result (λ changes. changes.items ≡ add_user_changes tables.now name.now (verifier_of name.now password.now)) }
 {
-    let next = next_mailbox(tables);
     let user = User {
         id,
         name: Octets::new(name.to_vec(alloc)?),
         verifier: verifier(name, password),
     };
-    let mailbox = empty_mailbox(alloc, next, id, b"INBOX")?;
     let mut changes = Vec::new(alloc);
     changes.push(RowChange::InsertUser(user))?;
+    push_mailbox(alloc, &mut changes, tables, id, b"INBOX")?;
+    Ok(changes)
+}
+
+// The changes that make a mailbox of a user.
+pub(crate) fn mailbox_changes(
+    alloc: Global,
+    tables: &Tables,
+    owner: u32,
+    name: &[u8],
+) -> Result<Vec<RowChange>, AllocError>
+    ensures { IfOk result (λ changes. changes.items ≡ create_changes tables.now owner name.now) }
+{
+    let mut changes = Vec::new(alloc);
+    push_mailbox(alloc, &mut changes, tables, owner, name)?;
+    Ok(changes)
+}
+
+// Adds the changes that make a mailbox.
+fn push_mailbox(
+    alloc: Global,
+    changes: &mut Vec<RowChange>,
+    tables: &Tables,
+    owner: u32,
+    name: &[u8],
+) -> Result<(), AllocError>
+    ensures { OnOk result (changes.new.items ≡ changes.old.items ++ create_changes tables.now owner name.now) }
+{
+    let next = next_mailbox(tables);
+    let mailbox = empty_mailbox(alloc, next, owner, name)?;
     changes.push(RowChange::InsertMailbox(mailbox))?;
     changes.push(RowChange::UpdateCounters(Counters {
         next: id_after(next),
     }))?;
-    Ok(changes)
+    Ok(())
 }
 
 // A mailbox as it is made.

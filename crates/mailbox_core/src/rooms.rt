@@ -1,21 +1,26 @@
 //! What is planned before anything changes: whether there is room for what is asked, and the rows that make it.
 
-ghost use Rattle.std.specs.Prelude.{◌≡◌, ◌+◌, ◌∷◌, [], true, length, None, IfOk, IfErr};
-ghost use Rattle.mail_world.specs.Names.{is_user_name};
-ghost use Rattle.mail_world.specs.Changes.{Exists, Full};
-ghost use Rattle.mail_stands.specs.Refusals.{add_user_refused};
-ghost use Rattle.mail_stands.specs.RowChanges.{add_user_changes};
+ghost use Rattle.std.specs.Prelude.{◌≡◌, ◌+◌, ◌∷◌, [], true, nat_le, length, None, IfOk, IfErr};
+ghost use Rattle.mail_world.specs.Names.{created_name, is_user_name};
+ghost use Rattle.mail_world.specs.Limits.{most_mailboxes};
+ghost use Rattle.mail_world.specs.Changes.{BadName, Exists, Full};
+ghost use Rattle.mail_stands.specs.Refusals.{add_user_refused, create_refused, mailboxes_of};
+ghost use Rattle.mail_stands.specs.RowChanges.{add_user_changes, create_changes};
 ghost use Rattle.mailbox_core.specs.Faults.{IsRefusal};
 ghost use Rattle.mailbox_core.specs.Looking.{verifier_of};
 ghost use Rattle.mailbox_core.specs.Rooms.{AnswersWhere, IsFreeMailbox, IsFreeUser, PlansNone, RefusesPlan};
 
 use crate::MailFault;
-use crate::new_rows::{next_mailbox, user_changes};
+use crate::names::{created_name, is_mailbox_name};
+use crate::new_rows::{mailbox_changes, next_mailbox, user_changes};
 use row_tables::{RowChange, Tables};
 use std::alloc::Global;
 
 // How many users a store takes.
 const MOST_USERS: u64 = 1000;
+
+// How many mailboxes a user may have.
+const MOST_MAILBOXES: u32 = 1000;
 
 // What a call commits, and then answers.
 #[derive(Drop)]
@@ -64,4 +69,64 @@ fn room_for_user(tables: &Tables, name: &[u8]) -> Result<u32, MailFault>
         return Err(MailFault::Full);
     }
     Ok(id)
+}
+
+// Makes a mailbox of a user, if there is room for one of a name.
+#[tactic(auto, using(crate::proofs::Planning::none_of, crate::proofs::Planning::starved_of, crate::proofs::Planning::not_refused))]
+pub(crate) fn plan_mailbox(
+    alloc: Global,
+    tables: &Tables,
+    owner: u32,
+    text: &[u8],
+) -> Result<Plan, MailFault>
+    ensures plan { IfOk result (λ plan. (plan.answer ≡ tables.now.heads.counters.next)
+        × (plan.changes.items ≡ create_changes tables.now owner (created_name text.now))) }
+    ensures free { IfOk result (λ plan. IsFreeMailbox tables.now) }
+    ensures asked { IfOk result (λ plan. create_refused tables.now owner (created_name text.now) ≡ None) }
+    ensures none { IfErr result (λ fault. PlansNone (IsFreeMailbox tables.now) fault (create_refused tables.now owner (created_name text.now))) }
+    ensures refuses { IfErr result (RefusesPlan (BadName ∷ Exists ∷ Full ∷ [])) }
+{
+    let name = created_name(text);
+    let answer = room_for_mailbox(tables, owner, name)?;
+    let changes = mailbox_changes(alloc, tables, owner, name)?;
+    Ok(Plan { changes, answer })
+}
+
+// The id of the next mailbox, if a user has room for one of a name.
+fn room_for_mailbox(tables: &Tables, owner: u32, name: &[u8]) -> Result<u32, MailFault>
+    ensures answers { AnswersWhere (IsFreeMailbox tables.now) result tables.now.heads.counters.next (create_refused tables.now owner name.now) }
+    ensures free { IfOk result (λ id. (id ≡ tables.now.heads.counters.next) × IsFreeMailbox tables.now) }
+    ensures refuses { IfErr result (IsRefusal (BadName ∷ Exists ∷ Full ∷ [])) }
+{
+    if !is_mailbox_name(name) {
+        return Err(MailFault::BadName);
+    }
+    if tables.mailbox_named(owner, name).is_some() {
+        return Err(MailFault::Exists);
+    }
+    let next = next_mailbox(tables);
+    if has_most_mailboxes(tables, owner) || next == 0 {
+        return Err(MailFault::Full);
+    }
+    if tables.mailboxes_row(next).is_some() {
+        return Err(MailFault::Full);
+    }
+    Ok(next)
+}
+
+// Whether a user has as many mailboxes as a user may have.
+fn has_most_mailboxes(tables: &Tables, owner: u32) -> bool
+    ensures { result ≡ nat_le most_mailboxes (length (mailboxes_of owner tables.now.heads.mailboxes)) }
+{
+    let mut rows = tables.mailboxes_rows();
+    let mut count: u32 = 0;
+    'rows: while let Some(row) = rows.next() {
+        if row.owner == owner {
+            count += 1;
+            if count == MOST_MAILBOXES {
+                return true;
+            }
+        }
+    }
+    false
 }

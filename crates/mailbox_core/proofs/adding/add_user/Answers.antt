@@ -15,7 +15,7 @@ use Rattle.mailbox_core.specs.Looking.{verifier_of}
 use Rattle.mailbox_core.specs.Rooms.{IsFreeMailbox, IsFreeUser, PlansNone}
 use Rattle.mailbox_core.proofs.Behaving.{behaves_alone, error_of}
 use Rattle.mailbox_core.proofs.Planned.{no_fault, planned_made, planned_none, refuses_none}
-use Rattle.mailbox_core.proofs.UserNames.{name_is_text}
+use Rattle.mailbox_core.proofs.Lengths.{name_is_text}
 use Rattle.mailbox_core.proofs.adding.add_user.Goals as goal
 
 pub returns-in-Err-clause-behaves : goal.returns-in-Err-clause-behaves
