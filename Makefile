@@ -1,4 +1,4 @@
-# `make demo` runs the proved program on two sessions, on a message and on a store, `make test` the gate, `make wrong-bodies` the
+# `make demo` runs the proved program on two sessions, on a message and on a store with a user, `make test` the gate, `make wrong-bodies` the
 # wrong bodies that the gate leaves out. Each builds what isn't built. They want the command `rt` on the PATH, and Python.
 program = crates/mailstored/out/mailstored
 sources = crates.txt $(shell find crates -path '*/out' -prune -o \( -name '*.rt' -o -name '*.antt' \) -print)
@@ -14,6 +14,8 @@ demo: $(program)
 	@$(program) $(store) canon < demo/message
 	@echo '# mailstored $(store) init'
 	@$(program) $(store) init
+	@echo '# mailstored $(store) adduser alice pw'
+	@$(program) $(store) adduser alice pw
 	@echo '# mailstored $(store) tables'
 	@$(program) $(store) tables
 

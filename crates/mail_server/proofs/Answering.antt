@@ -1,6 +1,7 @@
 -- A run over a text ends as the table of its word has it.
 use Rattle.std.proofs.Common.{◌≡◌, ℕ, ◌+◌, ◌≤◌, Bool, true, false, nat_lt, List, length, refl, sym, ◌∙◌, subst, inl, inr}
 use Rattle.std.specs.Prelude.{◌⊎◌, Option, Some, None, Result, Ok, Err, IfOk, MatchResult}
+use Rattle.std.specs.Option.{option_map}
 use Rattle.fault_counts.specs.Rose.{Rose}
 use Rattle.disk_model.specs.Told.{Told}
 use Rattle.disk_model.specs.declared.disk.Files.{Files}
@@ -10,6 +11,8 @@ use Rattle.mail_server.specs.declared.answer.Answer.{Answer}
 use Rattle.mail_server.specs.declared.status.Status.{Status}
 use Rattle.mail_server.specs.declared.status.Status.TheVariants.{Done, Usage, NoMemory, ReadFault, WriteFault, StoreFault, NotAStore, Refused, BadScript}
 use Rattle.mail_server.specs.declared.words.Command.{Command}
+use Rattle.mail_server.specs.Commands.{meaning}
+use Rattle.mail_server.specs.Words.{Asked}
 use Rattle.mail_server.specs.declared.words.Task.{Task}
 use Rattle.mail_server.specs.declared.words.Task.TheVariants.{Script, Canon}
 use Rattle.mail_server.specs.Does.{EndsRun}
@@ -164,7 +167,7 @@ unread tells task limit status old new files files' bound some unwritten clock s
     ends (inr none) = subst (λ (s : Status). Ends tells task s old new) (sym none.0) (wants-end tells task old new (record { quiet = none.1; unwritten = unwritten; clock = inl clock }))
 
 -- Words that are none of the program's do nothing.
-pub unasked : {S K C D : Type 0} (tells : Tells S K C) (told : Told D) (asked found : Option Command) (code : ℕ) (old : Outside S K C) (files : Files D)
-    → found ≡ asked → ((command : Command) → found ≡ Some command → ⊥) → code ≡ code_of Usage → EndsRun tells told asked code old old files files
-unasked tells told asked None code old files is none e = subst (λ (o : Option Command). EndsRun tells told o code old old files files) is (Usage, e, (refl, refl, refl))
+pub unasked : {S K C D : Type 0} (tells : Tells S K C) (told : Told D) (asked : Option Asked) (found : Option Command) (code : ℕ) (old : Outside S K C) (files : Files D)
+    → option_map meaning found ≡ asked → ((command : Command) → found ≡ Some command → ⊥) → code ≡ code_of Usage → EndsRun tells told asked code old old files files
+unasked tells told asked None code old files is none e = subst (λ (o : Option Asked). EndsRun tells told o code old old files files) is (Usage, e, (refl, refl, refl))
 unasked tells told asked (Some command) code old files is none e = absurd (none command refl)

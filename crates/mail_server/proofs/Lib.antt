@@ -7,5 +7,7 @@ pub mod Alone
 pub mod Playing
 pub mod Transfers
 pub mod Readings
+pub mod WordLists
 pub mod Answering
 pub mod StoreFiles
+pub mod UserFiles

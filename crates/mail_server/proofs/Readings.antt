@@ -1,5 +1,5 @@
 -- What the text of a script says, and the lines of its sessions.
-use Rattle.std.proofs.Common.{◌≡◌, ℕ, zero, suc, ◌+◌, ◌<◌, ◌≤◌, Bool, true, false, nat_lt, nat_le, List, [], ◌∷◌, ◌++◌, length, get_or, map, refl, sym, ◌∙◌, ap, subst, arith, length-append}
+use Rattle.std.proofs.Common.{◌≡◌, ℕ, zero, suc, ◌+◌, ◌<◌, ◌≤◌, Bool, true, false, nat_lt, nat_le, List, [], ◌∷◌, ◌++◌, length, refl, sym, ◌∙◌, ap, subst, arith, length-append}
 use Rattle.std.specs.Prelude.{Option, Some, None, flat_map}
 use Rattle.std.specs.List.{range_with_len}
 use Rattle.std.proofs.lemmas.List.{append-nil}
@@ -63,11 +63,6 @@ transcript-more last out =
     let lines : ℕ → List ℕ = λ number. session_lines number (out number) in
     let e : 1 + last ≡ last + 1 = omega arith in
     ap (flat_map lines) (range-more 1 last) ∙ flat_map-append lines (range_with_len 1 last) ((1 + last) ∷ []) ∙ ap (λ n. transcript_of last out ++ n) (append-nil (lines (1 + last)) ∙ ap lines e)
-
-pub one-word : {X : Type 0} (f : X → List ℕ) (words : List X) (word : X) → 1 ≤ length words → length words < 2 → word ≡ get_or words 0 word → map f words ≡ f word ∷ []
-one-word f [] word some few is = absurd (omega arith)
-one-word f (w ∷ []) word some few is = ap (λ x. f x ∷ []) (sym is)
-one-word f (w ∷ v ∷ vs) word some few is = absurd (omega arith)
 
 -- a text by which a run is done isn't too long
 pub short-done : (task : Task) (bytes : List ℕ) (now : ℕ) (end : End) → EndsAs task bytes now end → end.status ≡ Done → length bytes ≤ limit_of task

@@ -50,6 +50,13 @@ read-before told old new P Q sure more fact =
     moved (told.reading new.log0) (told.reading old.log0) (told.reading new.log1) (told.reading old.log1) (told.reading new.bodies) (told.reading old.bodies) Q
     sure.0.reading sure.1.reading sure.2.reading (mapped (told.reading new.log0) (told.reading new.log1) (told.reading new.bodies) P Q more fact)
 
+-- and what was read before is read of them
+pub read-after : {D : Type 0} (told : Told D) (old new : Files D) (P Q : FileBytes → Type 0) → MakesAllSure told old new → ((bytes : FileBytes) → P bytes → Q bytes)
+    → IfRead told old P → IfRead told new Q
+read-after told old new P Q sure more fact =
+    moved (told.reading old.log0) (told.reading new.log0) (told.reading old.log1) (told.reading new.log1) (told.reading old.bodies) (told.reading new.bodies) Q
+    (sym sure.0.reading) (sym sure.1.reading) (sym sure.2.reading) (mapped (told.reading old.log0) (told.reading old.log1) (told.reading old.bodies) P Q more fact)
+
 -- a fact about all bytes holds of those that are read
 always : (x y z : Option (List ℕ)) (P : FileBytes → Type 0) → ((bytes : FileBytes) → P bytes) → IfThree x y z P
 always None y z P fact = tt
@@ -57,7 +64,10 @@ always (Some a) None z P fact = tt
 always (Some a) (Some b) None P fact = tt
 always (Some a) (Some b) (Some c) P fact = fact (record { log0 = a; log1 = b; bodies = c })
 
-counts-both : {D : Type 0} (told : Told D) (old mid new : Files D) → CountsNoFault told old mid → CountsNoFault told mid new → CountsNoFault told old new
+pub always-read : {D : Type 0} (told : Told D) (files : Files D) (P : FileBytes → Type 0) → ((bytes : FileBytes) → P bytes) → IfRead told files P
+always-read told files P fact = always (told.reading files.log0) (told.reading files.log1) (told.reading files.bodies) P fact
+
+pub counts-both : {D : Type 0} (told : Told D) (old mid new : Files D) → CountsNoFault told old mid → CountsNoFault told mid new → CountsNoFault told old new
 counts-both told old mid new first second = (second.0 ∙ first.0, second.1 ∙ first.1, second.2 ∙ first.2)
 
 reads-once : {D : Type 0} (told : Told D) (old mid new : Files D) → ReadsLogOnce told old mid → ReadsNothing told mid new → ReadsLogOnce told old new

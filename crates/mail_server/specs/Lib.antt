@@ -2,8 +2,10 @@ pub mod Script
 pub mod Rounds
 pub mod OnScript
 pub mod Words
+pub mod Commands
 pub mod Outside
 pub mod Run
 pub mod Texts
 pub mod Stores
+pub mod Users
 pub mod Does

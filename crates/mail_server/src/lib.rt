@@ -11,6 +11,7 @@ mod scripted;
 mod status;
 mod stores;
 mod streams;
+mod users;
 mod words;
 
 pub use laws::one_history_plays_a_script;

@@ -6,7 +6,7 @@ ghost use Rattle.mail_server.specs.Does.{EndsRun};
 ghost use Rattle.mail_server.specs.Outside.{EndsWriting, outside, tells_of};
 ghost use Rattle.mail_server.specs.Run.{AnswersAt};
 ghost use Rattle.mail_server.specs.Texts.{AnswersText};
-ghost use Rattle.mail_server.specs.Words.{command_of};
+ghost use Rattle.mail_server.specs.Words.{asked_by};
 
 use crate::answer::{Answer, end_with};
 use crate::canonical::answer_message;
@@ -14,6 +14,7 @@ use crate::scripted::answer_script;
 use crate::status::Status;
 use crate::stores::{list_tables, make_store};
 use crate::streams::{ReadFailure, read_all};
+use crate::users::add_user_to_files;
 use crate::words::{Command, Task, read_words};
 use disk_model::{Disk, Files};
 use port_model::{Clock, Ports, Sink, Source};
@@ -32,6 +33,10 @@ use std::alloc::{AllocError, Global};
 ///
 /// `init` makes an empty store in the files, unless they hold a store, which is refused with one line.
 ///
+/// `adduser` with a name and a password adds a user, who has an INBOX, to the store that the files hold. A name is 1 to 64 bytes of
+/// `a` to `z`, `0` to `9`, `.`, `_` and `-`; a password is 1 to 128 bytes of printed ASCII without spaces. One line refuses another
+/// name, another password, a name that is taken, and a user for whom there is no room.
+///
 /// `tables` writes a line for each row that the store's files hold, tables by their numbers and rows by their keys.
 ///
 /// The status is 0 where the run is done, 2 where the words are none of these, 3 where memory was refused, 4 where the source
@@ -49,7 +54,7 @@ pub fn run<S: Source, K: Sink, D: Disk, P: Ports, C: Clock>(
     clock: &mut C,
 ) -> (u8, Files<D>)
     // What the words ask for is done, and ends with a status of theirs, which comes only from its cause: each word has its table.
-    ensures does { EndsRun (tells_of S.left S.faults K.written K.faults C.readings) D.told (command_of (map (λ word. string_bytes word) words.now)) result.0
+    ensures does { EndsRun (tells_of S.left S.faults K.written K.faults C.readings) D.told (asked_by (map (λ word. string_bytes word) words.now)) result.0
         (outside source.old sink.old clock.old) (outside source.new sink.new clock.new) files result.1 }
 
     // No word uses the links.
@@ -69,6 +74,10 @@ pub fn run<S: Source, K: Sink, D: Disk, P: Ports, C: Clock>(
         }
         Command::Tables => {
             let (status, files) = list_tables(alloc, sink, files);
+            (status.code(), files)
+        }
+        Command::AddUser(name, password) => {
+            let (status, files) = add_user_to_files(alloc, name, password, sink, files);
             (status.code(), files)
         }
     }

@@ -93,7 +93,7 @@ pub(crate) fn list_tables<K: Sink, D: Disk>(
 }
 
 /// Why files were not loaded, as a run ends with it.
-fn refusal(fault: LoadFault) -> Status
+pub(crate) fn refusal(fault: LoadFault) -> Status
     ensures not_a_store { fault ≡ LoadFault.NotAStore → result ≡ NotAStore }
     ensures failed { fault ≡ LoadFault.Failed → result ≡ Status.StoreFault }
     ensures no_memory { fault ≡ LoadFault.NoMemory → result ≡ NoMemory }

@@ -1,20 +1,24 @@
 //! The words of the program.
 
 ghost use Rattle.std.specs.Prelude.{◌≡◌, ◌<◌, ◌^◌, map, string_bytes};
-ghost use Rattle.mail_server.specs.Words.{command_of, command_of_word};
+ghost use Rattle.std.specs.Option.{option_map};
+ghost use Rattle.mail_server.specs.Commands.{meaning};
+ghost use Rattle.mail_server.specs.Words.{asked_by, asked_by_three, asked_by_word};
 ghost use Rattle.mail_server.specs.Run.{limit_of};
 
 use crate::{canonical, scripted};
 
-/// What the words ask for.
+/// What the words ask for, which what is borrowed belongs to.
 #[derive(Clone, Copy, Debug, PartialEq, Eq)]
-pub(crate) enum Command {
+pub(crate) enum Command<'a> {
     /// To read a text from the source, and to write what it gives.
     OfText(Task),
     /// To make an empty store in the files.
     Init,
     /// To list the rows that the files hold.
     Tables,
+    /// To add a user with a name and a password.
+    AddUser(&'a [u8], &'a [u8]),
 }
 
 /// What is done with a text.
@@ -27,8 +31,8 @@ pub(crate) enum Task {
 }
 
 /// Reads a single word.
-fn read_word(word: &[u8]) -> Option<Command>
-    ensures { result ≡ command_of_word word.now }
+fn read_word<'a>(word: &[u8]) -> Option<Command<'a>>
+    ensures { option_map meaning result ≡ asked_by_word word.now }
 {
     if word == b"script".as_slice() {
         Some(Command::OfText(Task::Script))
@@ -43,12 +47,26 @@ fn read_word(word: &[u8]) -> Option<Command>
     }
 }
 
+/// Reads a word with two more.
+fn read_three<'a>(word: &[u8], name: &'a [u8], password: &'a [u8]) -> Option<Command<'a>>
+    ensures { option_map meaning result ≡ asked_by_three word.now name.now password.now }
+{
+    if word == b"adduser".as_slice() {
+        Some(Command::AddUser(name, password))
+    } else {
+        None
+    }
+}
+
 /// Reads the words; none where they are outside the grammar.
-pub(crate) fn read_words(words: &[String]) -> Option<Command>
-    ensures { result ≡ command_of (map (λ word. string_bytes word) words.now) }
+pub(crate) fn read_words(words: &[String]) -> Option<Command<'_>>
+    ensures { option_map meaning result ≡ asked_by (map (λ word. string_bytes word) words.now) }
 {
     match words {
         [word] => read_word(word.as_bytes()),
+        [word, name, password] => {
+            read_three(word.as_bytes(), name.as_bytes(), password.as_bytes())
+        }
         _ => None,
     }
 }
