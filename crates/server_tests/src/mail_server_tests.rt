@@ -397,14 +397,16 @@ fn files_of(alloc: Global, log: &[u8], fails: &[u64]) -> Result<Files<MemoryDisk
     })
 }
 
-/// Runs a word on files, and answers the status, what was written, and the files.
+/// Runs words, with a space between each two, on files, and answers the status, what was written, and the files.
 fn on_files(
     alloc: Global,
-    word: &str,
+    line: &str,
     files: Files<MemoryDisk>,
 ) -> Result<(u8, Vec<u8>, Files<MemoryDisk>), AllocError> {
     let mut words = Vec::new(alloc);
-    words.push(word.to_string(alloc)?)?;
+    for word in line.split(' ') {
+        words.push(word.to_string(alloc)?)?;
+    }
     let mut source = MemorySource::new(alloc, Vec::new(alloc), Vec::new(alloc))?;
     let mut sink = MemorySink::new(alloc, Vec::new(alloc))?;
     let mut ports = ScriptPorts::new(alloc, Vec::new(alloc), Vec::new(alloc))?;
@@ -451,6 +453,34 @@ fn a_store_is_made_once_and_listed(rt: HostRuntime) -> Result<(), Fail> {
     let (status, written, _files) = on_files(alloc, "init", files)?;
     assert_eq!(rt; status, 8);
     assert_eq!(rt; written.as_slice(), b"refused: store exists\n".as_slice());
+    Ok(())
+}
+
+#[test]
+fn users_are_added_and_refused(rt: HostRuntime) -> Result<(), Fail> {
+    let alloc = rt.alloc();
+    let mut files = files_of(alloc, b"", &[])?;
+    for (line, status, lines) in [
+        ("adduser Alice pw", 7, b"".as_slice()),
+        ("init", 0, b""),
+        ("adduser alice", 2, b""),
+        ("adduser alice p w", 2, b""),
+        ("adduser Alice \x7f", 8, b"refused: bad name\n"),
+        ("adduser alice \x7f", 8, b"refused: bad password\n"),
+        ("adduser alice pw", 0, b""),
+        ("adduser alice other", 8, b"refused: user exists\n"),
+        ("adduser bob pw", 0, b""),
+        (
+            "tables",
+            0,
+            b"users 1 \"alice\" f1159c8ad57ebebdc2d7057686977a8d0b3c98ee4f7503827bb0d809fe258ad3\nusers 2 \"bob\" 91e3d51d23ba15185dc7a7464f764c8d73c9b3e6be9cb9553c053f42e2aa4905\nmailboxes 1 1 \"INBOX\" 1 1 1\nmailboxes 2 2 \"INBOX\" 1 1 1\ncounters 3\n",
+        ),
+    ] {
+        let (got, written, after) = on_files(alloc, line, files)?;
+        assert_eq!(rt; got, status, "to {line}");
+        assert_eq!(rt; written.as_slice(), lines, "to {line}");
+        files = after;
+    }
     Ok(())
 }
 
