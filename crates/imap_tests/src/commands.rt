@@ -4,7 +4,7 @@ use std::alloc::{AllocError, Global};
 use std::test::Fail;
 
 /// The command that a unit is, `bad` for one that has a tag and no command, or `no tag`.
-fn told(alloc: Global, unit: &[u8]) -> Result<String, AllocError> {
+pub(crate) fn told(alloc: Global, unit: &[u8]) -> Result<String, AllocError> {
     match parse(alloc, unit) {
         Ok(tagged) => format!(in alloc; "{:?}", tagged.command),
         Err(ParseFault::Bad(Bad::WithTag(_))) => String::from_str(alloc, "bad"),

@@ -2,6 +2,14 @@
 #![tactic(auto)]
 
 #[cfg(test)]
+mod clients;
+#[cfg(test)]
 mod commands;
 #[cfg(test)]
+mod families;
+#[cfg(test)]
 mod lines;
+#[cfg(test)]
+mod manners;
+#[cfg(test)]
+mod shapes;
