@@ -114,7 +114,7 @@ module _ {D T : Type 0} (told : Told D) (old new : Store D) (after : TableRows) 
     faults = tells_as told old.files new.files (IsErrOf committed StoreFault.Failed) (ok_of answer ≡ error_of T MailFault.Failed) (λ e. cc) (λ e. cc) faults;
   }
 
-  behaves_err : (fault : StoreFault) → Commits told (false ≡ true) old.files new.files (stored old.tables) (stored after)
+  pub behaves_err : (fault : StoreFault) → Commits told (false ≡ true) old.files new.files (stored old.tables) (stored after)
       → (IsErrOf (uncommitted fault) StoreFault.NoMemory → new.files ≡ old.files) → TellsFaults told (IsErrOf (uncommitted fault) StoreFault.Failed) old.files new.files
       → Behaves told (error_of T (fault_in fault)) old new
   behaves_err Failed crash untouched faults = record {
@@ -136,11 +136,13 @@ module _ {D T : Type 0} (told : Told D) (old new : Store D) (after : TableRows) 
     faults = tells_as told old.files new.files (IsErrOf (uncommitted StoreFault.NoMemory) StoreFault.Failed) (error_of T MailFault.NoMemory ≡ error_of T MailFault.Failed) (λ e. cc) (λ e. cc) faults;
   }
 
-  pub behaves_failed : (fault : StoreFault) (given : MailFault) → given ≡ fault_in fault → Commits told (false ≡ true) old.files new.files (stored old.tables) (stored after)
-      → (IsErrOf (uncommitted fault) StoreFault.NoMemory → new.files ≡ old.files) → TellsFaults told (IsErrOf (uncommitted fault) StoreFault.Failed) old.files new.files
-      → Behaves told (error_of T given) old new
-  behaves_failed fault given is crash untouched faults =
-      subst (λ (f : MailFault). Behaves told (error_of T f) old new) (sym is) (behaves_err fault crash untouched faults)
+-- the same fault, as another call answers it
+module _ {D T : Type 0} (told : Told D) (old new : Store D) (fault : StoreFault) (given : MailFault) (is : given ≡ fault_in fault) where
+  pub behaves_told : Behaves told (error_of T (fault_in fault)) old new → Behaves told (error_of T given) old new
+  behaves_told behaves = subst (λ (f : MailFault). Behaves told (error_of T f) old new) (sym is) behaves
+
+  pub made_told : (world next : World) (answer : T) → IsMade told (error_of T (fault_in fault)) old new world next answer → IsMade told (error_of T given) old new world next answer
+  made_told world next answer made = subst (λ (f : MailFault). IsMade told (error_of T f) old new world next answer) (sym is) made
 
 pub is_outage : (fault : StoreFault) (given : MailFault) → given ≡ fault_in fault → IsOutage given
 is_outage Failed given is = inl is

@@ -7,3 +7,4 @@ pub mod Found
 pub mod Planning
 pub mod Planned
 pub mod Splitting
+pub mod Taking

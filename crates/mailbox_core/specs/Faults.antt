@@ -1,5 +1,5 @@
 -- What a call answers where it makes no change.
-use Rattle.std.specs.Prelude.{◌≡◌, ◌⊎◌, List, [], ◌∷◌, Result, IfErr}
+use Rattle.std.specs.Prelude.{◌≡◌, ◌⊎◌, List, [], ◌∷◌, Result, Ok, Err, IfErr}
 use Rattle.row_store.specs.declared.faults.StoreFault.{StoreFault}
 use Rattle.row_store.specs.declared.faults.StoreFault.TheVariants.{Failed, NoMemory}
 use Rattle.mail_world.specs.Changes.{Refusal, BadName, Absent, Exists, InUse, Full, NoUid}
@@ -18,6 +18,11 @@ fault_of NoUid = MailFault.NoUid
 abbrev pub fault_in : StoreFault → MailFault
 fault_in Failed = MailFault.Failed
 fault_in NoMemory = MailFault.NoMemory
+
+-- the answer of a call that refuses nothing, among those of calls that do
+abbrev pub answer_of : {T : Type 0} → Result T StoreFault → Result T MailFault
+answer_of (Ok answer) = Ok answer
+answer_of (Err fault) = Err (fault_in fault)
 
 -- one of these refusals
 abbrev pub IsRefusal : List Refusal → MailFault → Type 0

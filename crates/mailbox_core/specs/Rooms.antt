@@ -1,10 +1,14 @@
 -- These serve the contracts of private functions alone.
-use Rattle.std.specs.Prelude.{◌≡◌, ◌⊎◌, ◌+◌, List, length, Option, Some, None, Result, Ok, Err}
+use Rattle.std.specs.Prelude.{◌≡◌, ◌⊎◌, ℕ, ◌+◌, List, [], length, Option, Some, None, Result, Ok, Err}
 use Rattle.ordered_rows.specs.RowKey.{number_key}
 use Rattle.ordered_rows.specs.Listed.{row_at}
 use Rattle.row_tables.specs.Keys.{user_key, mailbox_key}
 use Rattle.row_tables.specs.TableRows.{TableRows}
+use Rattle.row_tables.specs.Fits.{IsText}
+use Rattle.row_tables.specs.declared.heads.Mailbox.{Mailbox as Head}
+use Rattle.row_tables.specs.declared.change.RowChange.{RowChange}
 use Rattle.mail_world.specs.Changes.{Refusal}
+use Rattle.mail_stands.specs.RowChanges.{recents_changes}
 use Rattle.mailbox_core.specs.declared.faults.MailFault.{MailFault}
 use Rattle.mailbox_core.specs.Faults.{fault_of, IsRefusal}
 
@@ -29,3 +33,9 @@ PlansNone free fault (Some refusal) = fault ≡ fault_of refusal
 -- a refusal of these, or want of memory
 abbrev pub RefusesPlan : List Refusal → MailFault → Type 0
 RefusesPlan refusals fault = (fault ≡ MailFault.NoMemory) ⊎ IsRefusal refusals fault
+
+-- The changes by which the recent messages of a mailbox are taken: none where its row has a name that no row may have.
+abbrev pub TakesRecents : TableRows → ℕ → List RowChange → Type 0
+TakesRecents t id changes =
+    ((changes ≡ []) × ((row : Head) → row_at mailbox_key (number_key id) t.heads.mailboxes ≡ Some row → IsText row.name → ⊥))
+    ⊎ ((row : Head) × (row_at mailbox_key (number_key id) t.heads.mailboxes ≡ Some row) × IsText row.name × (changes ≡ recents_changes row))

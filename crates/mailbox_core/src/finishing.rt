@@ -9,7 +9,7 @@ ghost use Rattle.mail_world.specs.Worlds.{World};
 ghost use Rattle.mail_stands.specs.Stands.{Stands};
 ghost use Rattle.mail_stands.specs.Leading.{KeepsOwners, Leads};
 ghost use Rattle.mailbox_core.specs.Calls.{Behaves, IsMade};
-ghost use Rattle.mailbox_core.specs.Faults.{IsOutage, fault_in};
+ghost use Rattle.mailbox_core.specs.Faults.{IsOutage, answer_of, fault_in};
 
 use crate::MailFault;
 use disk_model::Disk;
@@ -31,10 +31,30 @@ pub(crate) fn finish<D: Disk, T: Drop>(
         → Leads content store.old.tables changes.items after → IsMade D.told result store.old store.new world after answer) }
     ensures outage { IfErr result IsOutage }
 {
+    match finish_unrefused(store, changes, answer) {
+        Ok(answer) => Ok(answer),
+        Err(fault) => Err(told_as(fault)),
+    }
+}
+
+// The same for a call that refuses nothing.
+pub(crate) fn finish_unrefused<D: Disk, T: Drop>(
+    store: &mut RowStore<D>,
+    changes: Vec<RowChange>,
+    answer: T,
+) -> Result<T, StoreFault>
+    requires usable { store.old.spent ≡ false }
+    requires fit { CanRun store.old.tables changes.items }
+    requires placed { ArePlaced store.old.placed changes.items }
+    ensures behaves { (after : TableRows) → Runs store.old.tables changes.items after → KeepsOwners store.old.tables after
+        → Behaves D.told (answer_of result) store.old store.new }
+    ensures made { IfContents D.told store.old (λ content. (world after : World) → Stands content store.old.tables world
+        → Leads content store.old.tables changes.items after → IsMade D.told (answer_of result) store.old store.new world after answer) }
+{
     changes_have_one_end();
     match store.commit(changes) {
         Ok(()) => Ok(answer),
-        Err(fault) => Err(told_as(fault)),
+        Err(fault) => Err(fault),
     }
 }
 

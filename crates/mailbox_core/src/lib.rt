@@ -13,6 +13,7 @@ mod look_ups;
 mod looking;
 mod names;
 mod new_rows;
+mod recents;
 mod rooms;
 mod verifiers;
 
@@ -20,3 +21,4 @@ pub use adding::{add_user, create};
 pub use faults::MailFault;
 pub use looking::{find, login, user_of};
 pub use names::is_user_name;
+pub use recents::take_recent;

@@ -1,30 +1,20 @@
-use Rattle.std.proofs.Common.{Ok, Err, refl}
-use Rattle.std.proofs.lemmas.Bool.{false≢true}
-use Rattle.mailbox_core.proofs.Behaving.{behaves_ok, behaves_failed, is_outage}
-use Rattle.mailbox_core.proofs.Leaving.{is_made}
+use Rattle.mailbox_core.proofs.Behaving.{behaves_told, is_outage, made_told}
 use Rattle.mailbox_core.proofs.finishing.finish.Goals as goal
-
-pub returns-in-Ok-clause-behaves : goal.returns-in-Ok-clause-behaves
-returns-in-Ok-clause-behaves g c after runs owners =
-    behaves_ok g.D.Disk.told c.args.store.now c.commit.new.self after owners c.args.answer (c.in-Ok.ensures.crash after runs)
-    (c.changes_have_one_end.ensures c.args.store.now.tables c.args.changes.items c.commit.new.self.tables after c.in-Ok.ensures.made runs)
-    c.in-Ok.ensures.forgotten c.in-Ok.ensures.goes_on c.in-Ok.ensures.faults
 
 pub returns-in-Err-clause-behaves : goal.returns-in-Err-clause-behaves
 returns-in-Err-clause-behaves g c after runs owners =
-    behaves_failed g.D.Disk.told c.args.store.now c.commit.new.self after owners c.in-Err.fault c.told_as.result c.told_as.ensures (c.in-Err.ensures.crash after runs)
-    c.in-Err.ensures.untouched c.in-Err.ensures.faults
-
-pub returns-in-Ok-clause-made : goal.returns-in-Ok-clause-made
-returns-in-Ok-clause-made g c world next stands leads =
-    is_made g.D.Disk.told (Ok c.args.answer) c.args.store.now c.commit.new.self leads.after world next (c.in-Ok.ensures.crash leads.after leads.runs) stands leads.stands
-    c.args.answer refl
-    (λ ok. c.changes_have_one_end.ensures c.args.store.now.tables c.args.changes.items c.commit.new.self.tables leads.after c.in-Ok.ensures.made leads.runs)
+    behaves_told g.D.Disk.told c.args.store.now c.finish_unrefused.new.store c.in-Err.fault c.told_as.result c.told_as.ensures (c.in-Err.ensures.behaves after runs owners)
 
 pub returns-in-Err-clause-made : goal.returns-in-Err-clause-made
 returns-in-Err-clause-made g c world next stands leads =
-    is_made g.D.Disk.told (Err c.told_as.result) c.args.store.now c.commit.new.self leads.after world next (c.in-Err.ensures.crash leads.after leads.runs) stands leads.stands
-    c.args.answer (is_outage c.in-Err.fault c.told_as.result c.told_as.ensures) (λ ok. absurd (false≢true ok))
+    made_told g.D.Disk.told c.args.store.now c.finish_unrefused.new.store c.in-Err.fault c.told_as.result c.told_as.ensures world next c.args.answer
+    (c.in-Err.ensures.made world next stands leads)
 
 pub returns-in-Err-clause-outage : goal.returns-in-Err-clause-outage
 returns-in-Err-clause-outage g c = is_outage c.in-Err.fault c.told_as.result c.told_as.ensures
+
+pub returns-in-Ok-clause-behaves : goal.returns-in-Ok-clause-behaves
+returns-in-Ok-clause-behaves g c after runs owners = c.in-Ok.ensures.behaves after runs owners
+
+pub returns-in-Ok-clause-made : goal.returns-in-Ok-clause-made
+returns-in-Ok-clause-made g c world next stands leads = c.in-Ok.ensures.made world next stands leads
