@@ -11,7 +11,7 @@ use Rattle.mime_tree.specs.Trees.Content.{leaf, multi, nested}
 use Rattle.mime_tree.specs.Trees.Trees.{none, more}
 use Rattle.ordered_rows.specs.RowKey.{number_key}
 use Rattle.ordered_rows.specs.Listed.{row_at}
-use Rattle.row_tables.specs.Keys.{message_key}
+use Rattle.row_tables.specs.Keys.{message_key, uid_key, mailbox_message_key}
 use Rattle.row_tables.specs.TableRows.{TableRows}
 use Rattle.row_tables.specs.declared.mails.HeaderField.{HeaderField}
 use Rattle.row_tables.specs.declared.values.AddressField.{AddressField}
@@ -24,7 +24,8 @@ use Rattle.shredder.specs.MessageRows.{AddressTexts, IsAddressId, AreItemRows, I
 use Rattle.shredder.specs.Distinct.{AreDistinct, Keeps}
 use Rattle.shredder.specs.Shredding.{SameAt, SameMessage, Shreds}
 use Rattle.mail_world.specs.Worlds.{World, Entry}
-use Rattle.mail_stands.specs.Facts.{Tied, IsEntryRow, mails_in}
+use Rattle.mail_stands.specs.Facts.{Tied, IsEntryRow, entry_in, mails_in}
+use Rattle.mail_stands.specs.Stands.{Stands}
 use Rattle.mail_stands.proofs.Showing.{Shows}
 
 -- ---- what a message has in two stores
@@ -105,6 +106,11 @@ module _ (content : BodyPart → List ℕ) (t : TableRows) where
       message_stays (stored_by content t) (mails_in content t) (record { names = λ id name here. here; addresses = λ id texts here. here; bodies = λ id bytes here. here }) message mail
       (record { size = refl; reason = refl; rows = λ path. record { part = refl; fields = refl; addresses = λ place. refl; dates = λ place. refl; ids = λ place. refl } }) h
 
+  told_by_all : (message : ℕ) (mail : Mail) → HasRows (mails_in content t) message mail → HasRows (stored_by content t) message mail
+  told_by_all message mail h =
+      message_stays (mails_in content t) (stored_by content t) (record { names = λ id name here. here; addresses = λ id texts here. here; bodies = λ id bytes here. here }) message mail
+      (record { size = refl; reason = refl; rows = λ path. record { part = refl; fields = refl; addresses = λ place. refl; dates = λ place. refl; ids = λ place. refl } }) h
+
   distinct_in_all : AreDistinct (mails_in content t) → AreDistinct (stored_by content t)
   distinct_in_all d = record { names = d.names; addresses = d.addresses; contents = d.contents; digests = d.digests }
 
@@ -150,3 +156,12 @@ module _ (content : BodyPart → List ℕ) (t : TableRows) (message : ℕ) (mail
     flags = s.flags;
     distinct = distinct_in_mails content shreds.after (shreds.distinct (distinct_in_all content t s.distinct));
   }
+
+-- ---- who reads a message finds its rows among all
+
+pub rows_in_all : (content : BodyPart → List ℕ) (t : TableRows) (world : World) (id uid : ℕ) → Stands content t world
+    → Tied (IsEntryRow (stored_by content t)) (row_at mailbox_message_key (uid_key id uid) t.marks.mailbox_messages) (entry_in id uid world.mailboxes)
+rows_in_all content t world id uid s =
+    tied_weaker (IsEntryRow (mails_in content t)) (IsEntryRow (stored_by content t))
+    (λ row entry h. record { modseq = h.modseq; seconds = h.seconds; zone = h.zone; rows = told_by_all content t row.message entry.message.mail h.rows; kept = h.kept })
+    (row_at mailbox_message_key (uid_key id uid) t.marks.mailbox_messages) (entry_in id uid world.mailboxes) (s.entries id uid)

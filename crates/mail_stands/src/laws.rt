@@ -4,17 +4,19 @@ ghost use Rattle.std.specs.Prelude.{◌≡◌, ◌+◌, ℕ, List, None, Some, l
 ghost use Rattle.std.specs.Option.{option_map};
 ghost use Rattle.ordered_rows.specs.RowKey.{number_key};
 ghost use Rattle.ordered_rows.specs.Listed.{row_at};
-ghost use Rattle.row_tables.specs.Keys.{mailbox_key, user_key};
+ghost use Rattle.row_tables.specs.Keys.{mailbox_key, mailbox_message_key, uid_key, user_key};
 ghost use Rattle.row_tables.specs.Names as names;
 ghost use Rattle.row_tables.specs.TableRows.{TableRows, no_rows};
 ghost use Rattle.row_tables.specs.References.{AreClosed, HasMailbox, HasSubscription, HasUser};
 ghost use Rattle.row_tables.specs.declared.heads.Mailbox.{Mailbox as Head};
 ghost use Rattle.row_tables.specs.Fits.{CanRun, IsText, Runs};
 ghost use Rattle.row_tables.specs.declared.contents.BodyPart.{BodyPart};
+ghost use Rattle.row_store.specs.Holding.{stored_by};
 ghost use Rattle.mail_world.specs.Worlds.{World, mailbox_at, mailbox_named, no_world, user_at};
 ghost use Rattle.mail_world.specs.Names.{created_name, mailbox_name};
 ghost use Rattle.mail_world.specs.Changes.{AddUser, Create, Delete, Subscribe, TakeRecents, Unsubscribe};
 ghost use Rattle.mail_world.specs.Applying.{apply, refused};
+ghost use Rattle.mail_stands.specs.Facts.{IsEntryRow, Tied, entry_in};
 ghost use Rattle.mail_stands.specs.Stands.{Stands};
 ghost use Rattle.mail_stands.specs.Leading.{KeepsOthers, KeepsOwners, Leads};
 ghost use Rattle.mail_stands.specs.Sameness.{IsSameWorld};
@@ -47,6 +49,12 @@ pub fn mailbox_rows()
         → row_at mailbox_key (number_key id) t.heads.mailboxes ≡ option_map (λ mailbox. mailbox.head) (mailbox_at id world.mailboxes) }
     ensures named { (content : BodyPart → List ℕ) (t : TableRows) (world : World) (owner : ℕ) (name : List ℕ) → Stands content t world
         → names.mailbox_named owner name t.heads.mailboxes ≡ option_map (λ mailbox. mailbox.head) (mailbox_named owner name world.mailboxes) }
+{}
+
+/// The row of a message, by the mailbox and the UID, is the entry of the world, and the rows of its mail are those that the store has.
+pub fn entry_rows()
+    ensures { (content : BodyPart → List ℕ) (t : TableRows) (world : World) (id uid : ℕ) → Stands content t world
+        → Tied (IsEntryRow (stored_by content t)) (row_at mailbox_message_key (uid_key id uid) t.marks.mailbox_messages) (entry_in id uid world.mailboxes) }
 {}
 
 /// A user that is added, with the user's INBOX. Over any tables the rows can be inserted where their ids are new, and no mailbox goes

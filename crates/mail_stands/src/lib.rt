@@ -11,6 +11,6 @@ mod laws;
 
 pub use arriving::{append, message_uids, names_grow};
 pub use laws::{
-    add_user, create, delete, mailbox_rows, no_rows_stand, one_world, subscribe, take_recents,
-    unsubscribe, user_rows,
+    add_user, create, delete, entry_rows, mailbox_rows, no_rows_stand, one_world, subscribe,
+    take_recents, unsubscribe, user_rows,
 };
