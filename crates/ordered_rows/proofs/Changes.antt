@@ -1,11 +1,11 @@
 -- A replacement as a removal and an insertion, and how many rows pass a test after a change.
-use Rattle.std.proofs.Common.{◌≡◌, ℕ, suc, ◌+◌, Bool, true, false, not, cond, if◌then◌else◌, List, [], ◌∷◌, ◌++◌, length, map, Option, Some, None, IsSome, refl, sym, ap, ◌∙◌, subst, arith, length-append}
+use Rattle.std.proofs.Common.{◌≡◌, ℕ, suc, ◌+◌, Bool, true, false, not, cond, if◌then◌else◌, List, [], ◌∷◌, ◌++◌, length, Some, IsSome, refl, sym, ap, ◌∙◌, subst, arith}
 use mathlib.Core.Bool.{true≢false}
-use Rattle.std.specs.List.{AllByRecursion, filter, find}
+use Rattle.std.specs.List.{filter}
 use Rattle.std.specs.List.Sorted.{IsStrictlySortedBy}
 use Rattle.ordered_rows.specs.RowKey.{RowKey}
 use Rattle.ordered_rows.specs.Listed.{IsInOrder, has_key, is_below, row_at, with_row, with_replaced, without}
-use Rattle.ordered_rows.proofs.Keys.{has-not_below, none_behind, find-none, length-with_row, each_later, same_is}
+use Rattle.ordered_rows.proofs.Keys.{has-not_below, none_behind, find-none, length-with_row, each_later}
 use Rattle.ordered_rows.proofs.Groups.{filtered_same, filtered_other}
 use Rattle.ordered_rows.proofs.Cuts.{AllAre, AllAre-not, filter-passing, filter-failing}
 

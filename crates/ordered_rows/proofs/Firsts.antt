@@ -1,18 +1,21 @@
 -- The first row of a number, and the rows without it.
-use Rattle.std.proofs.Common.{◌≡◌, ℕ, Bool, true, false, not, cond, ◌==◌, ◌+◌, List, [], ◌∷◌, ◌++◌, take, drop, Vec, refl, sym, ap, ◌∙◌, subst}
+use Rattle.std.proofs.Common.{◌≡◌, ℕ, Bool, true, false, not, cond, ◌==◌, ◌+◌, List, [], ◌∷◌, ◌++◌, take, drop, Vec, Some, refl, sym, ap, ◌∙◌, subst}
 use mathlib.Core.Bool.{true≢false}
 use borrow.Author.Tests.{eqb-true}
 use Rattle.std.specs.declared.cmp.Ordering.TheVariants.{Less}
 use Rattle.std.specs.Ordering.{is_lt}
-use Rattle.std.specs.Cmp.{second_so}
 use Rattle.std.specs.List.{filter, AllByRecursion}
 use Rattle.std.specs.List.Sorted.{IsStrictlySortedBy}
-use Rattle.ordered_rows.specs.RowKey.{RowKey, number_key, same_key}
-use Rattle.ordered_rows.specs.Listed.{row_cmp, IsInOrder, has_key, is_below, rows_from, leading, has_number, without, without_number}
+use Rattle.ordered_rows.specs.RowKey.{RowKey, number_key}
+use Rattle.ordered_rows.specs.Listed.{row_cmp, IsInOrder, has_key, is_below, rows_from, leading, has_number, row_at, without, without_number}
 use Rattle.ordered_rows.specs.Blocks.{flat, IsTable, IsSpot, HasKey}
 use Rattle.ordered_rows.proofs.Cuts.{AllAre, IsCut, cut, falls_cut}
 use Rattle.ordered_rows.proofs.Keys.{below_falls, in_order_right, has-not_below, same_is, same_itself}
 use Rattle.ordered_rows.proofs.Numbers.{numbered_is}
+
+-- a row taken out by its key
+abbrev pub IsTakenAt : {X : Type 0} → (X → RowKey) → X → List X → List X → RowKey → Type 0
+IsTakenAt key row rows left k = (row_at key k rows ≡ Some row) × (left ≡ without key k rows)
 
 -- a filter whose test implies another's
 filter-among : {X : Type 0} (p q : X → Bool) → ((x : X) → p x ≡ true → q x ≡ true) → (xs : List X) → filter p (filter q xs) ≡ filter p xs

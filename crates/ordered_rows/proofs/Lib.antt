@@ -10,3 +10,5 @@ pub mod Numbers
 pub mod Prefixes
 pub mod Firsts
 pub mod Changes
+pub mod Counting
+pub mod Following

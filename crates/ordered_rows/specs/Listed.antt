@@ -70,8 +70,17 @@ has_number key n row = (key row).number == n
 abbrev pub without_number : {X : Type 0} → (X → RowKey) → ℕ → List X → List X
 without_number key n rows = filter (λ r. not (has_number key n r)) rows
 
+-- what taking out one row makes of the rows
+abbrev pub IsTaken : {X : Type 0} → (X → RowKey) → List X → List X → Option X → Type 0
+IsTaken key rows left None = left ≡ rows
+IsTaken key rows left (Some row) = (row_at key (key row) rows ≡ Some row) × (left ≡ without key (key row) rows)
+
 abbrev pub has_text : {X : Type 0} → (X → RowKey) → List ℕ → X → Bool
 has_text key text row = pointwise nat_eq (key row).text text
+
+-- of the key's number, and not below the key
+abbrev pub is_from : {X : Type 0} → (X → RowKey) → RowKey → X → Bool
+is_from key k row = not (is_below key k row) && has_number key k.number row
 
 abbrev pub is_under : {X : Type 0} → (X → RowKey) → ℕ → List ℕ → X → Bool
 is_under key n text row = has_text key text row && has_number key n row

@@ -1,8 +1,8 @@
 // Work on the blocks of a table.
-ghost use Rattle.std.specs.Prelude.{◌≡◌, ◌<◌, ◌+◌, ◌++◌, ◌∷◌, [], OnOk, OnErr, None, false, if◌then◌else◌, is_some, length, remove, vec_len};
+ghost use Rattle.std.specs.Prelude.{◌≡◌, ◌<◌, ◌+◌, ◌++◌, ◌∷◌, [], OnOk, OnErr, None, if◌then◌else◌, is_some, length, remove, vec_len};
 ghost use Rattle.std.specs.Option.{option_copied};
 ghost use Rattle.ordered_rows.specs.RowKey.{row_key};
-ghost use Rattle.ordered_rows.specs.Listed.{is_below, row_at, rows_from, last_row, with_row, with_replaced, without, without_number};
+ghost use Rattle.ordered_rows.specs.Listed.{IsTaken, is_below, row_at, rows_from, last_row, with_row, with_replaced, without, without_number};
 ghost use Rattle.ordered_rows.specs.Blocks.{flat, AreFilled, IsTable, IsSpot, IsEnd, IsFirst, IsPlace, last_passes};
 
 use crate::key::{Key, Keyed, compare, is_same};
@@ -219,22 +219,23 @@ fn first_place<R: Keyed>(blocks: &[Vec<R>], number: u64) -> Option<(usize, usize
     }
 }
 
-// Takes out the first row of a number, and says whether there was one.
-pub(crate) fn take_first<R: Keyed>(blocks: &mut Vec<Vec<R>>, number: u64) -> bool
+// Takes out the first row of a number.
+pub(crate) fn take_first<R: Keyed>(blocks: &mut Vec<Vec<R>>, number: u64) -> Option<R>
     requires { IsTable R.key_of blocks.old.items }
     ensures table { IsTable R.key_of blocks.new.items }
     ensures others { without_number R.key_of number (flat blocks.new.items) ≡ without_number R.key_of number (flat blocks.old.items) }
-    ensures none { result ≡ false → without_number R.key_of number (flat blocks.new.items) ≡ flat blocks.new.items }
-    ensures count { length (flat blocks.new.items) + (if result then 1 else 0) ≡ length (flat blocks.old.items) }
+    ensures none { result ≡ None → without_number R.key_of number (flat blocks.new.items) ≡ flat blocks.new.items }
+    ensures row { IsTaken R.key_of (flat blocks.old.items) (flat blocks.new.items) result }
+    ensures count { length (flat blocks.new.items) + (if is_some result then 1 else 0) ≡ length (flat blocks.old.items) }
 {
     match first_place(blocks, number) {
         Some((n, i)) => {
             let block = &mut blocks[n];
-            block.remove(i);
+            let row = block.remove(i);
             drop_empty(blocks, n);
-            true
+            Some(row)
         }
-        None => false,
+        None => None,
     }
 }
 

@@ -3,6 +3,8 @@
 #![tactic(auto)]
 
 mod blocks;
+mod counted;
+mod counts;
 mod group;
 mod key;
 pub mod laws;
@@ -11,6 +13,7 @@ mod rows;
 mod table;
 mod under;
 
+pub use counted::{CountedTable, Owned};
 pub use group::Group;
 pub use key::{Key, Keyed};
 pub use numbered::Numbered;

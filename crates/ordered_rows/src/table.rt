@@ -1,9 +1,9 @@
 // The rows of one table.
-ghost use Rattle.std.specs.Prelude.{◌≡◌, ◌<◌, ◌≤◌, ◌^◌, [], length, OnOk, OnErr, None};
+ghost use Rattle.std.specs.Prelude.{◌≡◌, ◌<◌, ◌≤◌, ◌+◌, ◌^◌, [], length, OnOk, OnErr, None, if◌then◌else◌, is_some};
 ghost use Rattle.std.specs.Option.{option_copied};
-ghost use Rattle.std.specs.List.{filter};
+ghost use Rattle.std.specs.List.{filter, find};
 ghost use Rattle.ordered_rows.specs.RowKey.{row_key};
-ghost use Rattle.ordered_rows.specs.Listed.{IsInOrder, IsLeastFree, IsNewNumber, has_number, has_text, is_in_group, row_at, rows_from, last_row, with_row, with_replaced, without, without_number};
+ghost use Rattle.ordered_rows.specs.Listed.{IsInOrder, IsLeastFree, IsNewNumber, IsTaken, has_number, has_text, is_from, is_in_group, row_at, rows_from, last_row, with_row, with_replaced, without, without_number};
 
 use crate::blocks::{exchange, last_in, put, rest_in, row_in, take_first, take_out};
 use crate::group::Group;
@@ -122,6 +122,18 @@ impl<R: Keyed> Table<R> {
         Under::of(self.rows_from(first), number, text)
     }
 
+    /// The first row from a key on that has the key's number.
+    pub fn numbered_from(&self, key: Key<'_>) -> Option<&R>
+        ensures { option_copied result ≡ find (is_from R.key_of (row_key key.entry)) self.now }
+    {
+        let row = self.rows_from(key).next()?;
+        if row.key().number == key.number {
+            Some(row)
+        } else {
+            None
+        }
+    }
+
     /// The number for a new row of a table whose keys have a number alone. Costs a look-up where the greatest number isn't the last
     /// of 64 bits, and else a walk over the rows that are numbered from 1 without a gap.
     pub fn new_number(&self) -> u64
@@ -195,8 +207,18 @@ impl<R: Keyed> Table<R> {
     pub fn remove_numbered(&mut self, number: u64)
         ensures { self.new ≡ without_number R.key_of number self.old }
     {
-        'removing: while take_first(&mut self.blocks, number) {
-            self.len -= 1;
-        }
+        'removing: while self.take_first(number).is_some() {}
+    }
+
+    // Takes out the first row of a number.
+    pub(crate) fn take_first(&mut self, number: u64) -> Option<R>
+        ensures others { without_number R.key_of number self.new ≡ without_number R.key_of number self.old }
+        ensures none { result ≡ None → without_number R.key_of number self.new ≡ self.new }
+        ensures row { IsTaken R.key_of self.old self.new result }
+        ensures count { length self.new + (if is_some result then 1 else 0) ≡ length self.old }
+    {
+        let row = take_first(&mut self.blocks, number)?;
+        self.len -= 1;
+        Some(row)
     }
 }

@@ -1,4 +1,4 @@
-use Rattle.std.proofs.Common.{◌≡◌, None, sym, ap, subst, ◌∙◌}
+use Rattle.std.proofs.Common.{None, sym, ap, subst, ◌∙◌}
 use borrow.Author.Tests.{eq-eqb}
 use Rattle.ordered_rows.specs.RowKey.{RowKey}
 use Rattle.ordered_rows.specs.Blocks.{IsSpot, IsEnd}
