@@ -8,3 +8,4 @@ pub mod Ascending
 pub mod NameEntries
 pub mod NameChanges
 pub mod Turns
+pub mod Following

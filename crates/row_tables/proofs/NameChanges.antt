@@ -5,7 +5,7 @@ use borrow.Author.Tests.{eqb-true, eq-eqb}
 use Rattle.std.specs.Ordering.{is_lt}
 use Rattle.std.specs.Cmp.{first_so, second_so}
 use Rattle.std.specs.Cmp.Lexicographic.{pointwise, bytes_decides}
-use Rattle.std.specs.List.{AllByRecursion, filter}
+use Rattle.std.specs.List.{AllByRecursion, filter, find}
 use Rattle.std.proofs.lemmas.List.Kept.{IsStrictlySortedBy-filter}
 use Rattle.ordered_rows.specs.RowKey.{RowKey, key_cmp, same_key, number_key}
 use Rattle.ordered_rows.specs.Listed.{IsInOrder, has_key, row_at, row_cmp, with_row, with_replaced, without}
@@ -19,6 +19,19 @@ use Rattle.row_tables.proofs.NameEntries.{IsEntry, is_here, here_name, here_numb
 all_of : {X : Type 0} (P : X → Type 0) → ((x : X) → P x) → (xs : List X) → AllByRecursion P xs
 all_of P f [] = tt
 all_of P f (x ∷ xs) = (f x, all_of P f xs)
+
+-- what a test finds passes it
+pub found_passes : {X : Type 0} (g : X → Bool) (xs : List X) (x : X) → find g xs ≡ Some x → g x ≡ true
+found_passes g [] x e = cc
+found_passes {X} g (y ∷ ys) x e = by (g y) refl e (λ h. found_passes g ys x h)
+  where
+    by : (b : Bool) → g y ≡ b → cond b (Some y) (find g ys) ≡ Some x → (find g ys ≡ Some x → g x ≡ true) → g x ≡ true
+    by true q h rest = let same : y ≡ x = cc in subst (λ z. g z ≡ true) same q
+    by false q h rest = rest h
+
+-- a row that is looked up by its key has that key
+pub has_its_key : {X : Type 0} (key : X → RowKey) → ((a b : RowKey) → same_key a b ≡ true → a ≡ b) → (k : RowKey) (rows : List X) (row : X) → row_at key k rows ≡ Some row → key row ≡ k
+has_its_key key keys k rows row at = keys (key row) k (found_passes (has_key key k) rows row at)
 
 -- without a row that isn't there
 pub without_none : {X : Type 0} (key : X → RowKey) (k : RowKey) (rows : List X) → row_at key k rows ≡ None → without key k rows ≡ rows
@@ -43,12 +56,17 @@ numbers_left {X} f g q w (x ∷ xs) h = by (g x) (q x) refl refl (numbers_left f
     by false false p r rest = rest
 
 module _ {X : Type 0} (names : Names X) where
+  -- the key of a row's entry
+  pub entry_key_is : (entry : NameEntry) (row : X) (i : ℕ) → IsEntry names entry row → names.id row ≡ i → name_entry_key entry ≡ name_key (names.number (names.place row)) (names.name (names.place row)) i
+  entry_key_is entry row i is id =
+      ap (λ n. name_key n entry.name entry.id) is.number ∙ ap (λ t. name_key (names.number (names.place row)) t entry.id) is.name ∙ ap (λ j. name_key (names.number (names.place row)) (names.name (names.place row)) j) (is.id ∙ id)
+
   at_name : (p : names.Place) (row : X) → names.has p row ≡ true → names.name (names.place row) ≡ names.name p
   at_name p row h =
       let all = names.same p row ∙ h in
       (bytes_decides (names.name (names.place row)) (names.name p)).0 (first_so (pointwise nat_eq (names.name (names.place row)) (names.name p)) true (first_so (pointwise nat_eq (names.name (names.place row)) (names.name p) && true) (names.number (names.place row) == names.number p) all))
 
-  at_number : (p : names.Place) (row : X) → names.has p row ≡ true → names.number (names.place row) ≡ names.number p
+  pub at_number : (p : names.Place) (row : X) → names.has p row ≡ true → names.number (names.place row) ≡ names.number p
   at_number p row h = eqb-true (names.number (names.place row)) (names.number p) (second_so (pointwise nat_eq (names.name (names.place row)) (names.name p) && true) (names.number (names.place row) == names.number p) (names.same p row ∙ h))
 
   -- rows with one name pass the same tests
@@ -139,6 +157,10 @@ module _ {X : Type 0} (names : Names X) where
                     let has : names.has p row ≡ names.has p x = same_rows p row old (sym (at_name (names.place row) old stays)) (sym (at_number (names.place row) old stays)) ∙ ap (names.has p) old_is in
                     let id : names.id row ≡ names.id x = ap (λ (k : RowKey). k.number) (sym (keyed row) ∙ sym same ∙ keyed x) in
                     ap (λ b. map names.id (cond b (row ∷ filter (names.has p) (with_replaced key row xs)) (filter (names.has p) (with_replaced key row xs)))) has ∙ behind (names.has p x) row id rest
+
+        -- the id stays
+        pub id_stays : names.id old ≡ names.id row
+        id_stays = ap (λ (k : RowKey). k.number) (sym (keyed old) ∙ has_its_key key keys (key row) rows old there ∙ keyed row)
 
         -- a row whose name changes
         module _ (entries : List NameEntry) (entry : NameEntry) (is : IsEntry names entry row) (moves : names.has (names.place row) old ≡ false) (are : AreNamed names entries rows) where

@@ -26,6 +26,10 @@ use Rattle.row_tables.specs.declared.indexes.DigestEntry.{DigestEntry}
 abbrev pub owned_key : ℕ → List ℕ → RowKey
 owned_key owner name = record { number = owner; text = name; second = []; third = []; place = 0; item = 0 }
 
+-- above all keys of rows and entries with the name, and below those with greater names
+abbrev pub after_key : ℕ → List ℕ → RowKey
+after_key owner name = record { number = owner; text = name; second = []; third = []; place = 1; item = 0 }
+
 -- of a message in a mailbox: the mailbox and the UID; of a flag of it: the flag besides
 abbrev pub uid_key : ℕ → ℕ → RowKey
 uid_key mailbox uid = record { number = mailbox; text = []; second = []; third = []; place = uid; item = 0 }

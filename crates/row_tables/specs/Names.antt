@@ -2,12 +2,14 @@
 use Rattle.std.specs.Prelude.{◌≡◌, ℕ, Bool, true, false, ◌&&◌, ◌==◌, nat_eq, List, [], ◌∷◌, map, Option, Some, None, MatchOption, refl}
 use Rattle.std.proofs.Common.{ap, ◌∙◌}
 use Rattle.std.specs.List.{filter, find}
-use Rattle.std.specs.Cmp.Lexicographic.{pointwise}
+use Rattle.std.specs.Ordering.{is_lt, nat_cmp}
+use Rattle.std.specs.Cmp.Lexicographic.{pointwise, slice_cmp}
 use Rattle.ordered_rows.specs.RowKey.{RowKey}
 use Rattle.ordered_rows.specs.Listed.{is_in_group, row_at}
 use Rattle.row_tables.specs.Keys.{mailbox_key}
 use Rattle.row_tables.specs.declared.heads.User.{User}
 use Rattle.row_tables.specs.declared.heads.Mailbox.{Mailbox}
+use Rattle.row_tables.specs.declared.heads.Subscription.{Subscription}
 use Rattle.row_tables.specs.declared.indexes.NameEntry.{NameEntry}
 
 abbrev pub has_user_name : List ℕ → User → Bool
@@ -23,6 +25,27 @@ user_named name rows = find (has_user_name name) rows
 -- the mailbox of the owner with the name, of several the one with the least id
 abbrev pub mailbox_named : ℕ → List ℕ → List Mailbox → Option Mailbox
 mailbox_named owner name rows = find (has_mailbox_name owner name) rows
+
+-- A name comes after another by its bytes.
+abbrev pub is_after : List ℕ → List ℕ → Bool
+is_after name other = is_lt (slice_cmp nat_cmp name other)
+
+abbrev pub mailbox_is_after : ℕ → List ℕ → Mailbox → Bool
+mailbox_is_after owner name r = is_after name r.name && (r.owner == owner)
+
+abbrev pub subscription_is_after : ℕ → List ℕ → Subscription → Bool
+subscription_is_after owner name r = is_after name r.name && (r.owner == owner)
+
+-- the mailbox of the owner with the next name after a name, of several the one with the least id
+pub record ComesNext (owner : ℕ) (name : List ℕ) (rows : List Mailbox) (r : Mailbox) : Type 0 where
+  pub owner_is : r.owner ≡ owner
+  pub after : is_after name r.name ≡ true
+  pub between : find (λ (s : Mailbox). is_after name s.name && is_after s.name r.name && (s.owner == owner)) rows ≡ None
+  pub first : mailbox_named owner r.name rows ≡ Some r
+
+abbrev pub IsNextMailbox : ℕ → List ℕ → List Mailbox → Option Mailbox → Type 0
+IsNextMailbox owner name rows None = find (mailbox_is_after owner name) rows ≡ None
+IsNextMailbox owner name rows (Some r) = ComesNext owner name rows r
 
 -- the mailbox with the row's id has another owner or another name
 abbrev pub IsRename : Mailbox → List Mailbox → Type 0

@@ -1,14 +1,16 @@
 // The calls that give rows of users, mailboxes, subscriptions and counters.
 ghost use Rattle.std.specs.Prelude.{◌≡◌, ◌∷◌, [], Some, length};
+ghost use Rattle.std.specs.List.{find};
 ghost use Rattle.std.specs.Option.{option_copied};
 ghost use Rattle.ordered_rows.specs.RowKey.{number_key};
 ghost use Rattle.ordered_rows.specs.Listed.{IsInOrder, row_at, rows_from};
 ghost use Rattle.row_tables.specs.Keys.{owned_key, user_key, mailbox_key, subscription_key};
-ghost use Rattle.row_tables.specs.Names.{user_named, mailbox_named};
+ghost use Rattle.row_tables.specs.Names.{IsNextMailbox, mailbox_named, subscription_is_after, user_named};
 ghost use Rattle.row_tables.specs.References.{subscriptions_of};
+ghost use Rattle.row_tables.specs.RowCounts.{mailbox_count, subscription_count};
 
 use crate::heads::{Counters, Mailbox, Subscription, User};
-use crate::keys::owned;
+use crate::keys::{after, owned};
 use crate::named::row_named;
 use crate::tables::Tables;
 use ordered_rows::{Key, Numbered, Rows};
@@ -69,6 +71,28 @@ impl Tables {
         row_named(&heads.mailboxes, &heads.mailbox_names, owner, name)
     }
 
+    /// The mailbox of an owner whose name comes next after a name, by the bytes of names. Of several with that name, which no server
+    /// makes, the one with the least id; the call after it passes over the others. The mailbox with an empty name comes after none:
+    /// `mailbox_named` finds it.
+    pub fn mailbox_after(&self, owner: u32, name: &[u8]) -> Option<&Mailbox>
+        ensures { IsNextMailbox owner name.now self.now.heads.mailboxes (option_copied result) }
+    {
+        let heads = &self.heads;
+        let _ = heads.mailbox_names.rows();
+        match heads.mailbox_names.numbered_from(after(owner, name)) {
+            Some(entry) => self.mailbox_named(owner, entry.name.as_slice()),
+            None => None,
+        }
+    }
+
+    /// How many mailboxes a user has. Costs a look-up.
+    pub fn mailbox_count(&self, owner: u32) -> u64
+        ensures { result ≡ mailbox_count owner self.now.heads.mailboxes }
+    {
+        let heads = &self.heads;
+        heads.mailboxes.count(owner as u64)
+    }
+
     pub fn mailboxes_rows(&self) -> Rows<'_, Mailbox>
         ensures rows { result ≡ self.now.heads.mailboxes }
         ensures order { IsInOrder mailbox_key self.now.heads.mailboxes }
@@ -116,6 +140,24 @@ impl Tables {
     {
         let heads = &self.heads;
         heads.subscriptions.numbered(owner as u64)
+    }
+
+    /// The subscription of a user whose name comes next after a name, by the bytes of names.
+    pub fn subscription_after(&self, owner: u32, name: &[u8]) -> Option<&Subscription>
+        ensures row { option_copied result ≡ find (subscription_is_after owner name.now) self.now.heads.subscriptions }
+        ensures order { IsInOrder subscription_key self.now.heads.subscriptions }
+    {
+        let heads = &self.heads;
+        let _ = heads.subscriptions.rows();
+        heads.subscriptions.numbered_from(after(owner, name))
+    }
+
+    /// To how many names a user is subscribed. Costs a look-up.
+    pub fn subscription_count(&self, owner: u32) -> u64
+        ensures { result ≡ subscription_count owner self.now.heads.subscriptions }
+    {
+        let heads = &self.heads;
+        heads.subscriptions.count(owner as u64)
     }
 
     /// There is always one row.

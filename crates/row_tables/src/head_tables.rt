@@ -10,17 +10,18 @@ use crate::heads::{Counters, Mailbox, Subscription, User};
 use crate::indexes::NameEntry;
 use crate::keys::owned;
 use crate::named::{add_named, remove_named, replace_named};
-use ordered_rows::Table;
+use ordered_rows::{CountedTable, Table};
 use std::alloc::{AllocError, Global};
 use std::marker::Model;
 
-// Contracts see the record of the rows. `user_names` and `mailbox_names` find users and mailboxes by their names.
+// Contracts see the record of the rows. `user_names` and `mailbox_names` find users and mailboxes by their names; mailboxes and
+// subscriptions are counted by their owners.
 #[derive(Drop)]
 pub(crate) struct HeadTables {
     alloc: Global,
-    pub(crate) users: Table<User>,
-    pub(crate) mailboxes: Table<Mailbox>,
-    pub(crate) subscriptions: Table<Subscription>,
+    pub(crate) users: CountedTable<User>,
+    pub(crate) mailboxes: CountedTable<Mailbox>,
+    pub(crate) subscriptions: CountedTable<Subscription>,
     pub(crate) counters: Counters,
     pub(crate) user_names: Table<NameEntry>,
     pub(crate) mailbox_names: Table<NameEntry>,
@@ -43,9 +44,9 @@ impl HeadTables {
     {
         HeadTables {
             alloc,
-            users: Table::new(alloc),
-            mailboxes: Table::new(alloc),
-            subscriptions: Table::new(alloc),
+            users: CountedTable::new(alloc),
+            mailboxes: CountedTable::new(alloc),
+            subscriptions: CountedTable::new(alloc),
             counters: Counters { next: 1 },
             user_names: Table::new(alloc),
             mailbox_names: Table::new(alloc),

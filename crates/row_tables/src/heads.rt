@@ -1,7 +1,7 @@
 // The rows of users, of their mailboxes and subscriptions, and the counter of mailbox ids.
 use crate::indexes::Named;
 use octets::Octets;
-use ordered_rows::{Key, Keyed};
+use ordered_rows::{Key, Keyed, Owned};
 
 /// A row of `users`. `verifier` is what a password is tested against.
 #[derive(Drop, Debug)]
@@ -11,9 +11,9 @@ pub struct User {
     pub verifier: [u8; 32],
 }
 
-/// A row of `mailboxes`. `owner` is a user; `uidnext` the UID for the next message, and 0 once the last is given; `first_recent` the
-/// first UID that no session has seen as recent; `highest` the mailbox's highest mod-sequence (RFC 7162 §3.1.2.1). The id is the
-/// mailbox's UIDVALIDITY (RFC 3501 §2.3.1.1).
+/// A row of `mailboxes`. `owner` is a user; `uidnext` the UID for the next message, and 4,294,967,295 once the last is given;
+/// `first_recent` the first UID that no session has seen as recent; `highest` the mailbox's highest mod-sequence (RFC 7162
+/// §3.1.2.1). The id is the mailbox's UIDVALIDITY (RFC 3501 §2.3.1.1).
 #[derive(Drop, Debug)]
 pub struct Mailbox {
     pub id: u32,
@@ -80,6 +80,31 @@ impl Keyed for Counters {
     }
 }
 
+// Users are of no one: all are counted together.
+impl Owned for User {
+    ghost owner_of = { λ row. 0 };
+
+    fn owner(&self) -> u64 {
+        0
+    }
+}
+
+impl Owned for Mailbox {
+    ghost owner_of = { λ row. row.owner };
+
+    fn owner(&self) -> u64 {
+        self.owner as u64
+    }
+}
+
+impl Owned for Subscription {
+    ghost owner_of = { λ row. row.owner };
+
+    fn owner(&self) -> u64 {
+        self.owner as u64
+    }
+}
+
 impl Named for User {
     ghost use Rattle.std.specs.Prelude.{refl};
     ghost use Rattle.row_tables.specs.Names.{user_naming};
@@ -87,6 +112,8 @@ impl Named for User {
     ghost names = { user_naming };
 
     ghost keyed = { λ row. refl };
+
+    ghost owned = { λ row. refl };
 
     fn id(&self) -> u32 {
         self.id
@@ -108,6 +135,8 @@ impl Named for Mailbox {
     ghost names = { mailbox_naming };
 
     ghost keyed = { λ row. refl };
+
+    ghost owned = { λ row. refl };
 
     fn id(&self) -> u32 {
         self.id

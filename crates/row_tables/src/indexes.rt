@@ -6,7 +6,7 @@ ghost use Rattle.row_tables.specs.Indexes.{Contents};
 ghost use Rattle.row_tables.specs.Names.{Names};
 
 use octets::Octets;
-use ordered_rows::{Key, Keyed};
+use ordered_rows::{Key, Keyed, Owned};
 use std::alloc::{AllocError, Global};
 
 // Where a content is: the id of the row with these texts. A content of one text leaves the others empty.
@@ -46,8 +46,8 @@ pub(crate) trait Unique: Keyed {
         ensures id { IfOk result (λ e. e.id ≡ contents.id self.now) };
 }
 
-// A row with an id and a name that others may have too.
-pub(crate) trait Named: Keyed {
+// A row with an id and a name that others may have too. It is counted among the rows of the number among whose rows the name stands.
+pub(crate) trait Named: Owned {
     ghost names: { Names Self };
 
     fn id(&self) -> u32
@@ -61,6 +61,8 @@ pub(crate) trait Named: Keyed {
         ensures { result.now ≡ names.name (names.place self.now) };
 
     ghost keyed: { (row : Self) → Self.Keyed.key_of row ≡ number_key (names.id row) };
+
+    ghost owned: { (row : Self) → Self.Owned.owner_of row ≡ names.number (names.place row) };
 }
 
 impl Keyed for ContentEntry {

@@ -1,7 +1,7 @@
 // Keys of rows from their columns.
 ghost use Rattle.std.specs.Prelude.{◌≡◌};
 ghost use Rattle.ordered_rows.specs.RowKey.{row_key};
-ghost use Rattle.row_tables.specs.Keys.{owned_key, uid_key, uid_flag_key, part_key, field_key, item_key};
+ghost use Rattle.row_tables.specs.Keys.{after_key, owned_key, uid_key, uid_flag_key, part_key, field_key, item_key};
 
 use ordered_rows::Key;
 
@@ -11,6 +11,16 @@ pub(crate) fn owned<'a>(owner: u32, name: &'a [u8]) -> Key<'a>
     Key {
         text: name,
         ..Key::of_number(owner as u64)
+    }
+}
+
+// The key from which on names come after a name.
+pub(crate) fn after<'a>(owner: u32, name: &'a [u8]) -> Key<'a>
+    ensures { row_key result ≡ after_key owner name.now }
+{
+    Key {
+        place: 1,
+        ..owned(owner, name)
     }
 }
 

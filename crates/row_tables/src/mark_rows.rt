@@ -8,6 +8,7 @@ ghost use Rattle.ordered_rows.specs.Listed.{IsInOrder, IsNewNumber, row_at, rows
 ghost use Rattle.row_tables.specs.Keys.{uid_key, uid_flag_key, mailbox_message_key, deleted_message_key, flag_name_key, flag_key};
 ghost use Rattle.row_tables.specs.Indexes.{flag_name_id};
 ghost use Rattle.row_tables.specs.References.{deleted_of, flags_at, flags_of, uids_of};
+ghost use Rattle.row_tables.specs.RowCounts.{entry_count};
 
 use crate::keys::{of_flag, of_uid};
 use crate::marks::{DeletedMessage, FlagName, FlagRow, MailboxMessage};
@@ -41,6 +42,14 @@ impl Tables {
         let marks = &self.marks;
         let _ = marks.mailbox_messages.rows();
         Uids::of(marks.mailbox_messages.numbered(mailbox as u64))
+    }
+
+    /// How many messages a mailbox has. Costs a look-up.
+    pub fn entry_count(&self, mailbox: u32) -> u64
+        ensures { result ≡ entry_count mailbox self.now.marks.mailbox_messages }
+    {
+        let marks = &self.marks;
+        marks.mailbox_messages.count(mailbox as u64)
     }
 
     /// The key is the mailbox and the UID.

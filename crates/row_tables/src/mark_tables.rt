@@ -10,15 +10,17 @@ use crate::indexes::ContentEntry;
 use crate::keys::{of_flag, of_uid};
 use crate::marks::{DeletedMessage, FlagName, FlagRow, MailboxMessage};
 use crate::shared::add_unique;
-use ordered_rows::Table;
+use ordered_rows::laws::keys;
+use ordered_rows::{CountedTable, Table};
 use std::alloc::{AllocError, Global};
 use std::marker::Model;
 
-// Contracts see the record of the rows. `words` finds a flag name by its text.
+// Contracts see the record of the rows. `words` finds a flag name by its text; the messages are
+// counted by their mailboxes.
 #[derive(Drop)]
 pub(crate) struct MarkTables {
     alloc: Global,
-    pub(crate) mailbox_messages: Table<MailboxMessage>,
+    pub(crate) mailbox_messages: CountedTable<MailboxMessage>,
     pub(crate) deleted_messages: Table<DeletedMessage>,
     pub(crate) flag_names: Table<FlagName>,
     pub(crate) flags: Table<FlagRow>,
@@ -42,7 +44,7 @@ impl MarkTables {
     {
         MarkTables {
             alloc,
-            mailbox_messages: Table::new(alloc),
+            mailbox_messages: CountedTable::new(alloc),
             deleted_messages: Table::new(alloc),
             flag_names: Table::new(alloc),
             flags: Table::new(alloc),
@@ -70,6 +72,7 @@ impl MarkTables {
     pub(crate) fn replace_mailbox_message(&mut self, row: MailboxMessage)
         ensures { self.new ≡ record self.old { mailbox_messages = with_replaced mailbox_message_key row self.old.mailbox_messages } }
     {
+        keys();
         self.mailbox_messages.replace(row);
     }
 

@@ -1,6 +1,6 @@
 // The rows of the messages of mailboxes, of those that are gone, and of flags.
 use octets::Octets;
-use ordered_rows::{Key, Keyed};
+use ordered_rows::{Key, Keyed, Owned};
 
 /// A row of `mailbox_messages`: a message in a mailbox. `modseq` is its mod-sequence (RFC 7162 §3.1); `seconds` its internal date, in
 /// seconds since 1970 began (UTC), and `zone` the zone in which that is shown, in minutes east of UTC.
@@ -47,6 +47,14 @@ impl Keyed for MailboxMessage {
             place: self.uid as u64,
             ..Key::of_number(self.mailbox as u64)
         }
+    }
+}
+
+impl Owned for MailboxMessage {
+    ghost owner_of = { λ row. row.mailbox };
+
+    fn owner(&self) -> u64 {
+        self.mailbox as u64
     }
 }
 

@@ -13,7 +13,7 @@ use ordered_rows::laws::{
     insert_undone, insertion, keys, numbers_after_insert, replacement, row_after_remove,
     rows_at_keys,
 };
-use ordered_rows::{Key, Table};
+use ordered_rows::{CountedTable, Key, Keyed, Table};
 use std::alloc::{AllocError, Global};
 
 // The entry of a row.
@@ -48,7 +48,7 @@ fn has_name_of<R: Named>(row: &R, other: &R) -> bool
 
 pub(crate) fn add_named<R: Named>(
     alloc: Global,
-    rows: &mut Table<R>,
+    rows: &mut CountedTable<R>,
     entries: &mut Table<NameEntry>,
     row: R,
 ) -> Result<(), AllocError>
@@ -77,7 +77,7 @@ pub(crate) fn add_named<R: Named>(
 // Puts a row in the place of the one with its id. Takes memory only where the name changes, and fails for want of it alone.
 pub(crate) fn replace_named<R: Named>(
     alloc: Global,
-    rows: &mut Table<R>,
+    rows: &mut CountedTable<R>,
     entries: &mut Table<NameEntry>,
     row: R,
 ) -> Result<(), AllocError>
@@ -96,6 +96,7 @@ pub(crate) fn replace_named<R: Named>(
     numbers_after_insert::<R>();
     numbers_after_insert::<NameEntry>();
     insertion::<NameEntry>();
+    insert_undone::<NameEntry>();
     let _ = rows.rows();
     let Some(old) = rows.get(row.key()) else {
         return Ok(());
@@ -104,15 +105,27 @@ pub(crate) fn replace_named<R: Named>(
         rows.replace(row);
         return Ok(());
     }
+    let gone = entry(alloc, old)?;
     let entry = entry(alloc, &row)?;
     entries.insert(entry)?;
-    entries.remove(entry_key(old, row.id()));
-    rows.replace(row);
-    Ok(())
+    match rows.transfer(row) {
+        Ok(()) => {
+            entries.remove(gone.key());
+            Ok(())
+        }
+        Err(row) => {
+            entries.remove(entry_key(&row, row.id()));
+            Err(AllocError)
+        }
+    }
 }
 
 // Takes out the row with an id, if it is there.
-pub(crate) fn remove_named<R: Named>(rows: &mut Table<R>, entries: &mut Table<NameEntry>, id: u32)
+pub(crate) fn remove_named<R: Named>(
+    rows: &mut CountedTable<R>,
+    entries: &mut Table<NameEntry>,
+    id: u32,
+)
     requires { AreNamed R.names entries.old rows.old }
     ensures named { AreNamed R.names entries.new rows.new }
     ensures rows { rows.new ≡ without R.key_of (number_key id) rows.old }
@@ -137,7 +150,7 @@ fn first_id(entries: &Table<NameEntry>, number: u32, name: &[u8]) -> Option<u32>
 
 // The row that has a name, of several the one with the least id.
 pub(crate) fn row_named<'a, R: Named>(
-    rows: &'a Table<R>,
+    rows: &'a CountedTable<R>,
     entries: &Table<NameEntry>,
     number: u32,
     name: &[u8],

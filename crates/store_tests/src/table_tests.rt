@@ -2,7 +2,7 @@ use admin_texts::listing;
 use octets::Octets;
 use row_tables::{
     Counters, FieldName, FlagName, Mailbox, MailboxMessage, MessageRow, PartNumber, RowChange,
-    RowCount, Tables, User,
+    RowCount, Subscription, Tables, User,
 };
 use std::alloc::{AllocError, Global};
 use std::process::Abort;
@@ -110,26 +110,33 @@ fn try_users(rt: &impl Abort, alloc: Global, tables: &mut Tables) -> Result<(), 
     Ok(())
 }
 
-fn mailbox(alloc: Global, tables: &mut Tables) -> Result<bool, AllocError> {
-    let name = Octets::new(b"INBOX".to_vec(alloc)?);
-    put(
-        tables,
-        RowChange::InsertMailbox(Mailbox {
-            id: 1,
-            owner: 1,
-            name,
-            uidnext: 1,
-            first_recent: 1,
-            highest: 1,
-        }),
-    )
+fn new_mailbox(alloc: Global, id: u32, owner: u32, name: &[u8]) -> Result<Mailbox, AllocError> {
+    Ok(Mailbox {
+        id,
+        owner,
+        name: Octets::new(name.to_vec(alloc)?),
+        uidnext: 1,
+        first_recent: 1,
+        highest: 1,
+    })
 }
 
-fn entry(tables: &mut Tables, uid: u32) -> Result<bool, AllocError> {
+fn mailbox(
+    alloc: Global,
+    tables: &mut Tables,
+    id: u32,
+    owner: u32,
+    name: &[u8],
+) -> Result<bool, AllocError> {
+    let row = new_mailbox(alloc, id, owner, name)?;
+    put(tables, RowChange::InsertMailbox(row))
+}
+
+fn entry(tables: &mut Tables, mailbox: u32, uid: u32) -> Result<bool, AllocError> {
     put(
         tables,
         RowChange::InsertMailboxMessage(MailboxMessage {
-            mailbox: 1,
+            mailbox,
             uid,
             message: 4,
             modseq: 2,
@@ -142,12 +149,12 @@ fn entry(tables: &mut Tables, uid: u32) -> Result<bool, AllocError> {
 // A mailbox with a message in tables that have none, and its removal.
 fn try_mailbox(rt: &impl Abort, alloc: Global, tables: &mut Tables) -> Result<(), Fail> {
     let mut count = RowCount::new();
-    assert!(rt; !mailbox(alloc, tables)?);
+    assert!(rt; !mailbox(alloc, tables, 1, 1, b"INBOX")?);
     assert!(rt; user(alloc, tables, 1, b"ann")?);
-    assert!(rt; mailbox(alloc, tables)?);
-    assert!(rt; !entry(tables, 7)?);
+    assert!(rt; mailbox(alloc, tables, 1, 1, b"INBOX")?);
+    assert!(rt; !entry(tables, 1, 7)?);
     assert!(rt; message(tables, 4)?);
-    assert!(rt; entry(tables, 7)?);
+    assert!(rt; entry(tables, 1, 7)?);
     assert_eq!(rt; tables.uids(1).next(), Some(7));
     assert_eq!(rt;
         tables.mailbox_row(1, 7, &mut count).map(|row| row.zone),
@@ -157,6 +164,93 @@ fn try_mailbox(rt: &impl Abort, alloc: Global, tables: &mut Tables) -> Result<()
     assert!(rt; tables.mailbox_row(1, 7, &mut count).is_none());
     assert_eq!(rt; count.get(), 2);
     assert!(rt; !put(tables, RowChange::DropMailbox(1))?);
+    Ok(())
+}
+
+fn next_id(tables: &Tables, owner: u32, name: &[u8]) -> Option<u32> {
+    tables.mailbox_after(owner, name).map(|row| row.id)
+}
+
+// The mailboxes of users 3 and 5, which have none, in the order of their names. User 3 has two of one name and one without a name, as
+// only a file made by hand does.
+fn try_owners(rt: &impl Abort, alloc: Global, tables: &mut Tables) -> Result<(), Fail> {
+    assert!(rt; mailbox(alloc, tables, 6, 3, b"b")?);
+    assert!(rt; mailbox(alloc, tables, 4, 3, b"b")?);
+    assert!(rt; mailbox(alloc, tables, 2, 3, b"a")?);
+    assert!(rt; mailbox(alloc, tables, 8, 3, b"")?);
+    assert!(rt; mailbox(alloc, tables, 9, 5, b"aa")?);
+    assert_eq!(rt; next_id(tables, 3, b""), Some(2));
+    assert_eq!(rt; next_id(tables, 3, b"a"), Some(4));
+    assert_eq!(rt; next_id(tables, 3, b"aa"), Some(4));
+    assert_eq!(rt; next_id(tables, 3, b"b"), None);
+    assert_eq!(rt; next_id(tables, 4, b""), None);
+    assert_eq!(rt; next_id(tables, 5, b"a"), Some(9));
+    assert_eq!(rt; tables.mailbox_count(3), 4);
+    assert_eq!(rt; tables.mailbox_count(4), 0);
+    Ok(())
+}
+
+// A mailbox gets another owner and another name, and one is dropped.
+fn try_moves(rt: &impl Abort, alloc: Global, tables: &mut Tables) -> Result<(), Fail> {
+    let row = new_mailbox(alloc, 4, 5, b"a")?;
+    assert!(rt; put(tables, RowChange::UpdateMailbox(row))?);
+    assert_eq!(rt; tables.mailbox_count(3), 3);
+    assert_eq!(rt; tables.mailbox_count(5), 2);
+    assert_eq!(rt; next_id(tables, 3, b"a"), Some(6));
+    assert_eq!(rt; next_id(tables, 5, b""), Some(4));
+    assert!(rt; put(tables, RowChange::DropMailbox(6))?);
+    assert_eq!(rt; tables.mailbox_count(3), 2);
+    assert_eq!(rt; next_id(tables, 3, b"a"), None);
+    Ok(())
+}
+
+// The messages of mailboxes 2 and 9, which have none.
+fn try_entries(rt: &impl Abort, tables: &mut Tables) -> Result<(), Fail> {
+    assert!(rt; entry(tables, 2, 7)?);
+    assert!(rt; entry(tables, 2, 8)?);
+    assert!(rt; entry(tables, 9, 7)?);
+    assert_eq!(rt; tables.entry_count(2), 2);
+    assert!(rt; put(tables, RowChange::RemoveMailboxMessage((2, 7)))?);
+    assert_eq!(rt; tables.entry_count(2), 1);
+    assert!(rt; put(tables, RowChange::DropMailbox(2))?);
+    assert_eq!(rt; tables.entry_count(2), 0);
+    assert_eq!(rt; tables.entry_count(9), 1);
+    Ok(())
+}
+
+fn subscribe(
+    alloc: Global,
+    tables: &mut Tables,
+    owner: u32,
+    name: &[u8],
+) -> Result<bool, AllocError> {
+    let name = Octets::new(name.to_vec(alloc)?);
+    put(
+        tables,
+        RowChange::InsertSubscription(Subscription { owner, name }),
+    )
+}
+
+fn has_next(tables: &Tables, owner: u32, name: &[u8], next: &[u8]) -> bool {
+    match tables.subscription_after(owner, name) {
+        Some(row) => row.name.as_slice() == next,
+        None => false,
+    }
+}
+
+// The subscriptions of users 3 and 5, who have none.
+fn try_subscriptions(rt: &impl Abort, alloc: Global, tables: &mut Tables) -> Result<(), Fail> {
+    assert!(rt; subscribe(alloc, tables, 3, b"b")?);
+    assert!(rt; subscribe(alloc, tables, 3, b"a")?);
+    assert!(rt; subscribe(alloc, tables, 5, b"ab")?);
+    assert!(rt; has_next(tables, 3, b"", b"a"));
+    assert!(rt; has_next(tables, 3, b"a", b"b"));
+    assert!(rt; tables.subscription_after(3, b"b").is_none());
+    assert_eq!(rt; tables.subscription_count(3), 2);
+    let name = Octets::new(b"a".to_vec(alloc)?);
+    assert!(rt; put(tables, RowChange::RemoveSubscription((3, name)))?);
+    assert_eq!(rt; tables.subscription_count(3), 1);
+    assert!(rt; has_next(tables, 3, b"", b"b"));
     Ok(())
 }
 
@@ -174,6 +268,10 @@ fn try_all(rt: &impl Abort, alloc: Global, tables: &mut Tables) -> Result<(), Fa
     try_names(rt, alloc, tables)?;
     try_users(rt, alloc, tables)?;
     try_mailbox(rt, alloc, tables)?;
+    try_owners(rt, alloc, tables)?;
+    try_moves(rt, alloc, tables)?;
+    try_entries(rt, tables)?;
+    try_subscriptions(rt, alloc, tables)?;
     assert_eq!(rt; counters(tables)?, (true, false));
     Ok(())
 }
