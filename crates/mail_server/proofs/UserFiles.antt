@@ -16,6 +16,7 @@ use Rattle.row_store.specs.Kept.{Store}
 use Rattle.row_store.specs.Loading.{IsNoStore}
 use Rattle.mail_world.specs.Names.{is_user_name}
 use Rattle.mail_world.specs.Worlds.{World}
+use Rattle.mail_world.specs.Looking.{verifier_of}
 use Rattle.mail_world.specs.Changes.{AddUser, Refusal, BadName, Absent, Exists, InUse, Full, NoUid, first_refusal}
 use Rattle.mail_world.specs.Applying.{apply, refused}
 use Rattle.mail_world.specs.Users.{new_user_id}
@@ -24,7 +25,6 @@ use Rattle.mailbox_core.specs.declared.faults.MailFault.{MailFault}
 use Rattle.mailbox_core.specs.Calls.{Behaves, Makes, MakesUnless}
 use Rattle.mailbox_core.specs.Faults.{fault_of, IsOutage, IsRefusal as IsAnyRefusal}
 use Rattle.mailbox_core.specs.Left.{HoldsWorld, Left, StandForOne, StandsForOne}
-use Rattle.mailbox_core.specs.Looking.{verifier_of}
 use Rattle.mail_server.specs.declared.status.Status.{Status}
 use Rattle.mail_server.specs.declared.status.Status.TheVariants.{Done, NoMemory, StoreFault, NotAStore, Refused, WriteFault}
 use Rattle.mail_server.specs.Outside.{EndsWriting}

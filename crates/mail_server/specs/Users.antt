@@ -11,10 +11,10 @@ use Rattle.row_store.specs.Kept.{Store, IfContents}
 use Rattle.mail_world.specs.Names.{is_user_name}
 use Rattle.mail_world.specs.Limits.{most_users}
 use Rattle.mail_world.specs.Worlds.{World}
+use Rattle.mail_world.specs.Looking.{verifier_of}
 use Rattle.mail_world.specs.Users.{with_user}
 use Rattle.mail_stands.specs.Stands.{Stands}
 use Rattle.mailbox_core.specs.Left.{HoldsWorld, Left, StandsFor}
-use Rattle.mailbox_core.specs.Looking.{verifier_of}
 use Rattle.mail_server.specs.declared.status.Status.{Status}
 use Rattle.mail_server.specs.declared.status.Status.TheVariants.{Done, Usage, NoMemory, ReadFault, WriteFault, StoreFault, NotAStore, Refused, BadScript}
 use Rattle.mail_server.specs.Outside.{WritesAll, StopsWriting}

@@ -1,6 +1,7 @@
 pub mod Names
 pub mod Flags
 pub mod Worlds
+pub mod Looking
 pub mod Limits
 pub mod Changes
 pub mod Users

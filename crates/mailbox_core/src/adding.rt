@@ -5,12 +5,12 @@ ghost use Rattle.row_tables.specs.References.{HasUser};
 ghost use Rattle.row_store.specs.Kept.{IfContents};
 ghost use Rattle.mail_world.specs.Names.{is_user_name};
 ghost use Rattle.mail_world.specs.Worlds.{World};
+ghost use Rattle.mail_world.specs.Looking.{verifier_of};
 ghost use Rattle.mail_world.specs.Changes.{AddUser, BadName, Create, Exists, Full};
 ghost use Rattle.mail_world.specs.Users.{new_user_id};
 ghost use Rattle.mail_stands.specs.Stands.{Stands};
 ghost use Rattle.mailbox_core.specs.Calls.{Behaves, Makes};
 ghost use Rattle.mailbox_core.specs.Faults.{RefusesFor};
-ghost use Rattle.mailbox_core.specs.Looking.{verifier_of};
 
 use crate::MailFault;
 use crate::finishing::finish;

@@ -8,7 +8,7 @@ ghost use Rattle.row_tables.specs.Keys.{mailbox_key};
 ghost use Rattle.row_tables.specs.Names.{mailbox_named};
 ghost use Rattle.row_tables.specs.References.{HasUser};
 ghost use Rattle.mail_world.specs.Names.{mailbox_name};
-ghost use Rattle.mailbox_core.specs.Looking.{login_id, user_id};
+ghost use Rattle.mail_world.specs.Looking.{login_id, user_id};
 
 use crate::names::canonical_name;
 use crate::verifiers::verifier;

@@ -7,8 +7,8 @@ ghost use Rattle.row_tables.specs.Keys.{mailbox_key};
 ghost use Rattle.row_tables.specs.References.{HasUser};
 ghost use Rattle.row_store.specs.Kept.{IfContents};
 ghost use Rattle.mail_world.specs.Worlds.{World};
+ghost use Rattle.mail_world.specs.Looking.{login_id, mailbox_id, user_id};
 ghost use Rattle.mail_stands.specs.Stands.{Stands};
-ghost use Rattle.mailbox_core.specs.Looking.{login_id, mailbox_id, user_id};
 
 use crate::look_ups;
 use disk_model::Disk;

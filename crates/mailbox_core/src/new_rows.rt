@@ -2,8 +2,8 @@
 
 ghost use Rattle.std.specs.Prelude.{◌≡◌, ◌+◌, ◌++◌, length, IfOk, OnOk};
 ghost use Rattle.mail_world.specs.Users.{next_id};
+ghost use Rattle.mail_world.specs.Looking.{verifier_of};
 ghost use Rattle.mail_stands.specs.RowChanges.{add_user_changes, create_changes};
-ghost use Rattle.mailbox_core.specs.Looking.{verifier_of};
 
 use crate::verifiers::verifier;
 use octets::Octets;

@@ -4,10 +4,10 @@ ghost use Rattle.std.specs.Prelude.{◌≡◌, ◌+◌, ◌∷◌, [], true, nat
 ghost use Rattle.mail_world.specs.Names.{created_name, is_user_name};
 ghost use Rattle.mail_world.specs.Limits.{most_mailboxes};
 ghost use Rattle.mail_world.specs.Changes.{BadName, Exists, Full};
+ghost use Rattle.mail_world.specs.Looking.{verifier_of};
 ghost use Rattle.mail_stands.specs.Refusals.{add_user_refused, create_refused, mailboxes_of};
 ghost use Rattle.mail_stands.specs.RowChanges.{add_user_changes, create_changes};
 ghost use Rattle.mailbox_core.specs.Faults.{IsRefusal};
-ghost use Rattle.mailbox_core.specs.Looking.{verifier_of};
 ghost use Rattle.mailbox_core.specs.Rooms.{AnswersWhere, IsFreeMailbox, IsFreeUser, PlansNone, RefusesPlan};
 
 use crate::MailFault;

@@ -1,7 +1,7 @@
 //! What passwords are tested against.
 
 ghost use Rattle.std.specs.Prelude.{◌≡◌};
-ghost use Rattle.mailbox_core.specs.Looking.{verifier_of};
+ghost use Rattle.mail_world.specs.Looking.{verifier_of};
 
 use sha2::{Digest, Sha256};
 

@@ -8,10 +8,10 @@ use Rattle.row_store.specs.Holding.{in_row}
 use Rattle.mail_world.specs.Changes.{AddUser, Exists, Full}
 use Rattle.mail_world.specs.Applying.{apply, refused}
 use Rattle.mail_world.specs.Users.{new_user_id}
+use Rattle.mail_world.specs.Looking.{verifier_of}
 use Rattle.mail_stands.specs.Leading.{Leads}
 use Rattle.mail_stands.specs.Refusals.{add_user_refused}
 use Rattle.mail_stands.specs.RowChanges.{add_user_changes}
-use Rattle.mailbox_core.specs.Looking.{verifier_of}
 use Rattle.mailbox_core.specs.Rooms.{IsFreeMailbox, IsFreeUser, PlansNone}
 use Rattle.mailbox_core.proofs.Behaving.{behaves_alone, error_of}
 use Rattle.mailbox_core.proofs.Planned.{no_fault, planned_made, planned_none, refuses_none}
