@@ -37,11 +37,11 @@ pub(crate) fn is_in(class: Class, b: u8) -> bool
 fn is_atom(b: u8) -> bool
     ensures { result ≡ is_atom_byte b }
 {
-    b >= 0x21 && b <= 0x7E && !is_special(b)
+    b.is_ascii_alphanumeric() || (b >= 0x21 && b <= 0x7E && !is_special(b))
 }
 
 fn is_special(b: u8) -> bool
     ensures { result ≡ list_any (λ special. special == b) (codes "(){%*\"\\]") }
 {
-    b"(){%*\"\\]".iter().any(|special| *special == b)
+    matches!(b, b'(' | b')' | b'{' | b'%' | b'*' | b'"' | b'\\' | b']')
 }

@@ -26,7 +26,7 @@ pub(crate) enum PartWord {
     Mime,
 }
 
-const PART_WORDS: [(&[u8], PartWord); 5] = [
+static PART_WORDS: [(&[u8], PartWord); 5] = [
     (b"HEADER", PartWord::Header),
     (b"HEADER.FIELDS", PartWord::Fields),
     (b"HEADER.FIELDS.NOT", PartWord::OtherFields),
@@ -209,7 +209,7 @@ pub(crate) enum ItemWord {
     Uid,
 }
 
-const ITEM_WORDS: [(&[u8], ItemWord); 15] = [
+static ITEM_WORDS: [(&[u8], ItemWord); 15] = [
     (b"ALL", ItemWord::All),
     (b"FAST", ItemWord::Fast),
     (b"FULL", ItemWord::Full),

@@ -73,7 +73,7 @@ pub(crate) fn search(alloc: Global, reader: &mut Reader<'_>, by_uid: bool) -> Re
     })
 }
 
-const SORT_NAMES: [(&[u8], SortBy); 7] = [
+static SORT_NAMES: [(&[u8], SortBy); 7] = [
     (b"ARRIVAL", SortBy::Arrival),
     (b"CC", SortBy::Cc),
     (b"DATE", SortBy::Date),

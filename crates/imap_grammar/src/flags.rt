@@ -9,8 +9,7 @@ ghost use Rattle.imap_grammar.specs.Readings.{Reads};
 use crate::classes::Class;
 use crate::lists::{Rule, read_separated};
 use crate::reader::{Fault, Reader};
-use crate::strings::some;
-use mail_text::{lower, same};
+use mail_text::same;
 use octets::Octets;
 use sqlite_items::Items;
 use std::alloc::{AllocError, Global};
@@ -65,19 +64,23 @@ fn system_flag(reader: &mut Reader<'_>) -> Result<Flag, Fault>
 }
 
 /// A keyword.
-#[tactic(auto, unfolding(crate::specs::Flags::keyword_flag))]
+#[tactic(auto, unfolding(crate::specs::Flags::keyword_flag, crate::specs::Strings::some))]
 pub(crate) fn keyword_flag(alloc: Global, reader: &mut Reader<'_>) -> Result<Flag, Fault>
     ensures { Reads (spec.keyword_flag reader.old) result reader.new }
 {
-    let name = some(reader, Class::Atom)?;
-    let name = name.to_octets(alloc)?;
-    Ok(Flag::Keyword(Octets::new(lowered(alloc, name.as_slice())?)))
+    let name = reader.front(Class::Atom);
+    if name.is_empty() {
+        return Err(Fault::NoReading);
+    }
+    Ok(Flag::Keyword(Octets::new(lowered(alloc, name)?)))
 }
 
 fn lowered(alloc: Global, bytes: &[u8]) -> Result<Vec<u8>, AllocError>
     ensures { IfOk result (λ v. v.items ≡ map to_ascii_lowercase bytes.now) }
 {
-    bytes.iter().map(|b| lower(*b)).collect(alloc)
+    let mut name = Vec::from_slice(alloc, bytes)?;
+    name.make_ascii_lowercase();
+    Ok(name)
 }
 
 #[tactic(auto, unfolding(crate::specs::Flags::flag))]

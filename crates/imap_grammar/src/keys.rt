@@ -146,7 +146,7 @@ fn day(alloc: Global, reader: &mut Reader<'_>) -> Result<i64, Fault>
     }
 }
 
-const ENTRY_TYPES: [(&[u8], EntryType); 3] = [
+static ENTRY_TYPES: [(&[u8], EntryType); 3] = [
     (b"priv", EntryType::Private),
     (b"shared", EntryType::Shared),
     (b"all", EntryType::Any),

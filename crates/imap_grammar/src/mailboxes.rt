@@ -59,7 +59,7 @@ pub(crate) fn listing(
     })
 }
 
-const STATUS_ITEMS: [(&[u8], StatusItem); 6] = [
+static STATUS_ITEMS: [(&[u8], StatusItem); 6] = [
     (b"MESSAGES", StatusItem::Messages),
     (b"RECENT", StatusItem::Recent),
     (b"UIDNEXT", StatusItem::Uidnext),

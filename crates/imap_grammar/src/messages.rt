@@ -72,7 +72,7 @@ pub(crate) fn append(alloc: Global, reader: &mut Reader<'_>) -> Result<Command, 
     })
 }
 
-const CHANGES: [(&[u8], (FlagChange, bool)); 6] = [
+static CHANGES: [(&[u8], (FlagChange, bool)); 6] = [
     (b"FLAGS", (FlagChange::Set, false)),
     (b"FLAGS.SILENT", (FlagChange::Set, true)),
     (b"+FLAGS", (FlagChange::Add, false)),

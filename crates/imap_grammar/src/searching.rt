@@ -2,7 +2,7 @@
 ghost use Rattle.std.specs.Prelude.{◌≡◌, IfOk};
 ghost use Rattle.imap_grammar.specs.Searching as spec;
 ghost use Rattle.imap_grammar.specs.Lists.{separated};
-ghost use Rattle.imap_grammar.specs.Words.{keyword as keyword_of};
+ghost use Rattle.imap_grammar.specs.Words.{keyword as keyword_of, named as named_of};
 ghost use Rattle.imap_grammar.specs.Readings.{Reads};
 
 use crate::classes::Class;
@@ -10,7 +10,8 @@ use crate::flags::Flag;
 use crate::keys::{KeyWord, LeafWord, Mark, leaf_by};
 use crate::reader::{Fault, Reader};
 use crate::sets::{SeqSet, seq_set};
-use crate::words::keyword;
+use crate::words::named;
+use mail_text::lower;
 use octets::Octets;
 use sqlite_items::{Boxed, Items};
 use std::alloc::{AllocError, Global};
@@ -48,7 +49,7 @@ pub enum SearchKey {
 /// How many levels keys have at most: a key stands within 100.
 const LEVELS: u8 = 101;
 
-const KEY_WORDS: [(&[u8], KeyWord); 36] = [
+static KEY_WORDS: [(&[u8], KeyWord); 36] = [
     (b"ALL", KeyWord::Leaf(LeafWord::All)),
     (b"ANSWERED", KeyWord::Leaf(LeafWord::Has(Mark::Answered))),
     (b"BCC", KeyWord::Leaf(LeafWord::Bcc)),
@@ -90,10 +91,41 @@ const KEY_WORDS: [(&[u8], KeyWord); 36] = [
     (b"UNSEEN", KeyWord::Leaf(LeafWord::Lacks(Mark::Seen))),
 ];
 
+#[tactic(auto, unfolding(crate::specs::Words::keyword))]
 fn key_word(reader: &mut Reader<'_>) -> Result<KeyWord, Fault>
     ensures { Reads (keyword_of spec.key_words reader.old) result reader.new }
 {
-    keyword(reader, &KEY_WORDS)
+    match key_named(reader.front(Class::Word)) {
+        Some(name) => Ok(name),
+        None => Err(Fault::NoReading),
+    }
+}
+
+/// The key that has the name, in any case. Those of one letter stand together in the table.
+fn key_named(word: &[u8]) -> Option<KeyWord>
+    ensures { result ≡ named_of spec.key_words word.now }
+{
+    let [first, ..] = word else {
+        return None;
+    };
+    match lower(*first) {
+        b'a' => named(&KEY_WORDS[..2], word),
+        b'b' => named(&KEY_WORDS[2..5], word),
+        b'c' => named(&KEY_WORDS[5..6], word),
+        b'd' => named(&KEY_WORDS[6..8], word),
+        b'f' => named(&KEY_WORDS[8..10], word),
+        b'h' => named(&KEY_WORDS[10..11], word),
+        b'k' => named(&KEY_WORDS[11..12], word),
+        b'l' => named(&KEY_WORDS[12..13], word),
+        b'm' => named(&KEY_WORDS[13..14], word),
+        b'n' => named(&KEY_WORDS[14..16], word),
+        b'o' => named(&KEY_WORDS[16..19], word),
+        b'r' => named(&KEY_WORDS[19..20], word),
+        b's' => named(&KEY_WORDS[20..27], word),
+        b't' => named(&KEY_WORDS[27..29], word),
+        b'u' => named(&KEY_WORDS[29..], word),
+        _ => None,
+    }
 }
 
 /// Messages by their numbers.

@@ -95,7 +95,7 @@ fn read_resync(alloc: Global, reader: &mut Reader<'_>) -> Result<Resync, Fault>
     })
 }
 
-const OPENING_WORDS: [(&[u8], OpeningWord); 2] = [
+static OPENING_WORDS: [(&[u8], OpeningWord); 2] = [
     (b"CONDSTORE", OpeningWord::Condstore),
     (b"QRESYNC", OpeningWord::Qresync),
 ];

@@ -2,6 +2,7 @@
 ghost use Rattle.std.specs.Prelude.{◌≡◌, false, IfOk};
 ghost use Rattle.imap_grammar.specs.Spellings.{content, unescaped};
 
+use mail_text::has_byte;
 use octets::Octets;
 use std::alloc::{AllocError, Global};
 use std::marker::Model;
@@ -55,9 +56,13 @@ impl<'a> Spelling<'a> {
     }
 }
 
+#[tactic(auto, using(crate::proofs::SpellingLemmas::plain_text))]
 fn unescape(alloc: Global, bytes: &[u8]) -> Result<Vec<u8>, AllocError>
     ensures { IfOk result (λ v. v.items ≡ unescaped bytes.now) }
 {
+    if !has_byte(bytes, b'\\') {
+        return Vec::from_slice(alloc, bytes);
+    }
     let mut out = Vec::with_capacity(alloc, bytes.len())?;
     let mut behind = false;
     for b in bytes {

@@ -37,7 +37,7 @@ pub(crate) enum Verb {
     Uid,
 }
 
-const VERBS: [(&[u8], Verb); 27] = [
+static VERBS: [(&[u8], Verb); 27] = [
     (b"CAPABILITY", Verb::Capability),
     (b"NOOP", Verb::Noop),
     (b"LOGOUT", Verb::Logout),
@@ -79,7 +79,7 @@ pub(crate) enum UidVerb {
     Expunge,
 }
 
-const UID_VERBS: [(&[u8], UidVerb); 7] = [
+static UID_VERBS: [(&[u8], UidVerb); 7] = [
     (b"SEARCH", UidVerb::Search),
     (b"SORT", UidVerb::Sort),
     (b"THREAD", UidVerb::Thread),

@@ -12,7 +12,7 @@ use crate::reader::{Fault, Reader};
 use mail_text::same;
 
 /// The entry of a table that has the name, in any case.
-fn named<T: Copy>(table: &[(&'static [u8], T)], word: &[u8]) -> Option<T>
+pub(crate) fn named<T: Copy>(table: &[(&'static [u8], T)], word: &[u8]) -> Option<T>
     ensures { result ≡ named_of (entries table.now) word.now }
 {
     for (name, entry) in table {
