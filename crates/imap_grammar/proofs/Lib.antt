@@ -4,3 +4,4 @@ mod OpeningLemmas
 mod ListLaws
 mod RuleLaws
 mod ItemLaws
+mod WrittenLaws

@@ -17,3 +17,4 @@ pub mod Keys
 pub mod Searching
 pub mod Finding
 pub mod Commands
+pub mod Written

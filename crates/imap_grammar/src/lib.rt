@@ -27,7 +27,7 @@ pub use commands::{Bad, Command, ParseFault, Tagged};
 pub use finding::{SortBy, SortKey};
 pub use flags::{Flag, FlagChange};
 pub use items::{FetchItem, Section, SectionPart, StatusItem};
-pub use laws::law_lists;
+pub use laws::{law_commands, law_lists};
 pub use parsing::parse;
 pub use searching::SearchKey;
 pub use selecting::Resync;
