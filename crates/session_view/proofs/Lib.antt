@@ -1,0 +1,3 @@
+pub mod Numbered
+pub mod Covering
+pub mod Placing

@@ -1,0 +1,20 @@
+-- The own parts of the sessions, by the sessions' numbers.
+use Rattle.std.specs.Prelude.{ℕ, ◌==◌, Bool, List, Option, Some, None, map, find, if◌then◌else◌}
+use Rattle.session_view.specs.declared.sessions.SessionPart.{SessionPart}
+use Rattle.session_view.specs.declared.sessions.State.{State}
+use Rattle.session_view.specs.declared.sessions.State.TheVariants.{Fresh}
+
+abbrev pub has_number : ℕ → SessionPart → Bool
+has_number number part = part.number == number
+
+-- the state of a session, that of a new one where it has no part
+abbrev pub state_in : Option SessionPart → State
+state_in None = Fresh
+state_in (Some part) = part.state
+
+abbrev pub state_of : ℕ → List SessionPart → State
+state_of number parts = state_in (find (has_number number) parts)
+
+-- the parts with another state of a session
+abbrev pub with_state : ℕ → State → List SessionPart → List SessionPart
+with_state number state parts = map (λ part. if has_number number part then record { number = number; state = state } else part) parts
