@@ -67,7 +67,7 @@ noted-world : (world now : World) (change : Option Change) (number from count : 
 noted-world world now None number from count changes e = e
 noted-world world now (Some change) number from count changes e = ap (λ (w : World). applied w change) e
 
-after_step-world : (shared : Shared) (number : ℕ) (stepped : Stepped) → (after_step shared number stepped).world ≡ changed shared.world stepped.change
+pub after_step-world : (shared : Shared) (number : ℕ) (stepped : Stepped) → (after_step shared number stepped).world ≡ changed shared.world stepped.change
 unfolding left_by
 after_step-world shared number stepped =
     elim stepped.closes as (λ (b : Bool). (cond b (left_by (stepped_to shared stepped) number) (stepped_to shared stepped)).world ≡ changed shared.world stepped.change) [ true ↦ refl | false ↦ refl ]
@@ -154,6 +154,19 @@ piece-records : (world : World) (before : Machine) (moment : ℕ) (taking : Taki
 piece-records world before moment taking [] older r = r
 piece-records world before moment taking (byte ∷ piece) older r =
     piece-records world before moment (take_byte moment taking byte) piece (byte_tells moment taking byte older) (byte-records world before moment taking byte older r)
+
+-- a session that leaves changes nothing
+pub leaves-nothing : (shared : Shared) (session : Session) → ((leaves shared session).shared.world ≡ shared.world) × ((leaves shared session).changes ≡ [])
+unfolding left_by
+leaves-nothing shared session = by (is_open session.standing)
+  where
+    leaving : Bool → Taking
+    leaving is_served =
+        cond is_served (record { shared = left_by shared session.number; session = record session { standing = Closing }; answers = []; changes = [] }) (taking_of shared session)
+
+    by : (is_served : Bool) → ((leaving is_served).shared.world ≡ shared.world) × ((leaving is_served).changes ≡ [])
+    by true = (refl, refl)
+    by false = (refl, refl)
 
 -- a session that took nothing yet
 begun-records : (world : World) (before : Machine) (session : Session) (older : List Told) → Records world before older → Records world (takes before (taking_of before.shared session)) older

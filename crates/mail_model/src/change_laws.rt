@@ -1,10 +1,10 @@
 //! Laws of changes, each the contract of a function that does nothing. They hold of any step and of any change.
 
-ghost use Rattle.std.specs.Prelude.{ℕ, ◌≡◌, ◌+◌, ◌<◌, ◌≤◌, ◌++◌, List, length, map};
+ghost use Rattle.std.specs.Prelude.{ℕ, ◌≡◌, ◌+◌, ◌<◌, ◌≤◌, ◌++◌, List, [], length, map};
 ghost use Rattle.port_model.specs.declared.calls.PortCall.{PortCall};
 ghost use Rattle.port_model.specs.History.{PortEvent, sent};
-ghost use Rattle.mail_model.specs.Step.{Stepped, World};
-ghost use Rattle.mail_model.specs.Machine.{IsHandedOut, Machine, Made, Taking, after_unit, machine, opens, takes};
+ghost use Rattle.mail_model.specs.Step.{Shared, Stepped, World, after_step, changed};
+ghost use Rattle.mail_model.specs.Machine.{IsHandedOut, Machine, Made, Session, Taking, after_unit, leaves, machine, opens, takes};
 ghost use Rattle.mail_model.specs.Changes.{AllWithin, Records, Told, and_told, folded, tells, told};
 
 /// Laws of a step: its change comes on top, with its answer, whatever the step and whatever was answered before it in
@@ -14,6 +14,10 @@ pub fn steps_record_their_changes()
         → Records world (takes before (after_unit taking stepped)) (and_told taking.session.number stepped older) }
     ensures greeted { (world : World) (before : Machine) (number : ℕ) (greeted : Stepped) (older : List Told) → Records world before older
         → Records world (opens before number greeted) (and_told number greeted older) }
+
+    // The world after a step is that before it with the step's change. A session that leaves changes nothing.
+    ensures world { (shared : Shared) (number : ℕ) (stepped : Stepped) → (after_step shared number stepped).world ≡ changed shared.world stepped.change }
+    ensures left { (shared : Shared) (session : Session) → ((leaves shared session).shared.world ≡ shared.world) × ((leaves shared session).changes ≡ []) }
 {}
 
 /// Laws of the machine: its changes are those of its steps, each with the answer that its step gave, as it stands in all
