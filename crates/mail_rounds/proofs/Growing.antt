@@ -13,9 +13,8 @@ use Rattle.mail_model.specs.declared.standing.Standing.{Standing}
 use Rattle.mail_model.specs.declared.standing.Standing.TheVariants.{Open, Closing}
 use Rattle.mail_model.specs.Step.{Shared}
 use Rattle.mail_model.specs.Machine.{Session, Taking, is_open, leaves, taking_of, take_piece}
-use Rattle.mail_rounds.specs.declared.shared.Core.{Core}
+use Rattle.mail_rounds.specs.CoreSeen.{CoreSeen}
 use Rattle.mail_rounds.specs.declared.link.Link.{Link}
-use Rattle.mail_rounds.specs.Core.{IsShared}
 use Rattle.mail_rounds.specs.Calls.{Grows, Asks, AsksIdle, ReadsOnce, read_room}
 use Rattle.mail_rounds.specs.Held.{session_of, due_of, AtLink}
 use Rattle.mail_rounds.specs.Heard.{Hears, Offered, IsTaking}
@@ -43,11 +42,11 @@ leaves-silent shared session true o = rw o refl
 leaves-silent shared session false o = rw o refl
 
 -- The peer of a link closed its side.
-pub hears_end : (core : Core) (link : Link) (core' : Core) (link' : Link) (old new : Option (List PortCall)) → (room : ℕ) → Records (Read link.number room HasEnded) old new
+pub hears_end : {C : Type 0} (seen : CoreSeen C) (core : C) (link : Link) (core' : C) (link' : Link) (old new : Option (List PortCall)) → (room : ℕ) → Records (Read link.number room HasEnded) old new
     → is_open link.standing ≡ true → link.queue.items ≡ [] → link'.queue.items ≡ [] → ((shared : Shared) → session_of link' ≡ (leaves shared (session_of link)).session)
-    → ((shared : Shared) → IsShared core shared → IsShared core' (leaves shared (session_of link)).shared) → Grows (Hears core link core' link') old new
-hears_end core link core' link' old new room recorded o q q' s left =
-    grows_one (Hears core link core' link') (Read link.number room HasEnded) old new recorded
+    → ((shared : Shared) → seen.stands core shared → seen.stands core' (leaves shared (session_of link)).shared) → Grows (Hears seen core link core' link') old new
+hears_end seen core link core' link' old new room recorded o q q' s left =
+    grows_one (Hears seen core link core' link') (Read link.number room HasEnded) old new recorded
     (λ before. record {
       event = Some (Ended link.number);
       its = refl;
@@ -61,11 +60,11 @@ hears_end core link core' link' old new room recorded o q q' s left =
     })
 
 -- A read found the link lost.
-pub hears_loss : (core : Core) (link : Link) (core' : Core) (link' : Link) (old new : Option (List PortCall)) → (room : ℕ) → Records (Read link.number room WasLost) old new
+pub hears_loss : {C : Type 0} (seen : CoreSeen C) (core : C) (link : Link) (core' : C) (link' : Link) (old new : Option (List PortCall)) → (room : ℕ) → Records (Read link.number room WasLost) old new
     → is_open link.standing ≡ true → link.queue.items ≡ [] → link'.queue.items ≡ [] → ((shared : Shared) → session_of link' ≡ (leaves shared (session_of link)).session)
-    → ((shared : Shared) → IsShared core shared → IsShared core' (leaves shared (session_of link)).shared) → Grows (Hears core link core' link') old new
-hears_loss core link core' link' old new room recorded o q q' s left =
-    grows_one (Hears core link core' link') (Read link.number room WasLost) old new recorded
+    → ((shared : Shared) → seen.stands core shared → seen.stands core' (leaves shared (session_of link)).shared) → Grows (Hears seen core link core' link') old new
+hears_loss seen core link core' link' old new room recorded o q q' s left =
+    grows_one (Hears seen core link core' link') (Read link.number room WasLost) old new recorded
     (λ before. record {
       event = Some (Lost link.number);
       its = refl;
@@ -79,13 +78,13 @@ hears_loss core link core' link' old new room recorded o q q' s left =
     })
 
 -- A link gave a piece.
-pub hears_bytes : (core : Core) (link : Link) (core' : Core) (link' : Link) (piece : List ℕ) (reading : ℕ) (old mid new : Option (List PortCall))
+pub hears_bytes : {C : Type 0} (seen : CoreSeen C) (core : C) (link : Link) (core' : C) (link' : Link) (piece : List ℕ) (reading : ℕ) (old mid new : Option (List PortCall))
     → (room : ℕ) → Records (Read link.number room (Gave piece)) old mid → Records (Now reading) mid new
     → is_open link.standing ≡ true → link.queue.items ≡ []
-    → ((taking : Taking) → IsTaking core link taking → IsTaking core' link' (take_piece (moment reading) taking piece))
-    → Grows (Hears core link core' link') old new
-hears_bytes core link core' link' piece reading old mid new room one two o q did =
-    grows_two (Hears core link core' link') (Read link.number room (Gave piece)) (Now reading) old mid new one two
+    → ((taking : Taking) → IsTaking seen core link taking → IsTaking seen core' link' (take_piece (moment reading) taking piece))
+    → Grows (Hears seen core link core' link') old new
+hears_bytes seen core link core' link' piece reading old mid new room one two o q did =
+    grows_two (Hears seen core link core' link') (Read link.number room (Gave piece)) (Now reading) old mid new one two
     (λ before. record {
       event = Some (Piece link.number piece (moment reading));
       its = refl;
@@ -112,11 +111,11 @@ lost_other : (number n : ℕ) (before : List PortCall) (bytes : List ℕ) → n 
 lost_other number n before bytes other = rw (equal-other n number other) refl
 
 -- A send found the link lost.
-pub offered_lost : (core : Core) (link : Link) (core' : Core) (link' : Link) (old new : Option (List PortCall)) → Records (Send link.number link.queue.items SendLost) old new
+pub offered_lost : {C : Type 0} (seen : CoreSeen C) (core : C) (link : Link) (core' : C) (link' : Link) (old new : Option (List PortCall)) → Records (Send link.number link.queue.items SendLost) old new
     → link'.queue.items ≡ [] → ((shared : Shared) → session_of link' ≡ (leaves shared (session_of link)).session)
-    → ((shared : Shared) → IsShared core shared → IsShared core' (leaves shared (session_of link)).shared) → Grows (Offered core link core' link') old new
-offered_lost core link core' link' old new recorded q s left =
-    grows_one (Offered core link core' link') (Send link.number link.queue.items SendLost) old new recorded
+    → ((shared : Shared) → seen.stands core shared → seen.stands core' (leaves shared (session_of link)).shared) → Grows (Offered seen core link core' link') old new
+offered_lost seen core link core' link' old new recorded q s left =
+    grows_one (Offered seen core link core' link') (Send link.number link.queue.items SendLost) old new recorded
     (λ before. record {
       event = Some (Lost link.number);
       its = refl;

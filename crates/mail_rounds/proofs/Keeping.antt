@@ -15,9 +15,9 @@ use Rattle.imap_lexer.specs.Units.{first}
 use Rattle.imap_lexer.specs.Lexer.{Awaited}
 use Rattle.mail_model.specs.Step.{World, Shared, Stepped, after_step, greeting, stepped_to}
 use Rattle.mail_model.specs.Machine.{Machine, Session, hears_piece, leaves, adds, Taking, of_session, is_open, session_at, becomes, at_once, takes, opens, take_event, machine, after, standing_after}
-use Rattle.mail_rounds.specs.declared.shared.Core.{Core}
+use Rattle.mail_rounds.specs.CoreSeen.{CoreSeen}
 use Rattle.mail_rounds.specs.declared.link.Link.{Link}
-use Rattle.mail_rounds.specs.Core.{IsShared, IsStep}
+use Rattle.mail_rounds.specs.Steps.{IsStep}
 use Rattle.mail_rounds.specs.Held.{Held, session_of, queue_of, Ascending}
 use Rattle.mail_rounds.specs.Heard.{IsOfLink, IsLossOf, and_event, acts, IsTaking, Hears, Offered}
 use Rattle.mail_rounds.specs.Serves.{Answered, OpenAreKept, Serves, Keeps, IsGreeted, Opens}
@@ -35,7 +35,7 @@ answered-same : (lost lost' : Bool) (sent sent' queue queue' out out' : List ℕ
     → Answered lost sent queue out → Answered lost' sent' queue' out'
 answered-same lost lost' sent sent' queue queue' out out' l s q o h = rw (l, s, q, o) h
 
-abbrev holding : Core → List Link → ℕ → Held
+abbrev holding : {C : Type 0} → C → List Link → ℕ → Held C
 holding core links last = record { core = core; links = links; last = last }
 
 -- What the event of a link does to the machine.
@@ -50,18 +50,18 @@ record Becomes (before : List PortCall) (front : List Link) (new : Link) (back :
   last : m'.last ≡ m.last
 
 -- Every event of one link, and every call without an event, goes through this.
-serves-link : (first : World) (before later : List PortCall) (core core' : Core) (front : List Link) (link new : Link) (back : List Link) (last : ℕ)
+serves-link : {C : Type 0} (seen : CoreSeen C) (first : World) (before later : List PortCall) (core core' : C) (front : List Link) (link new : Link) (back : List Link) (last : ℕ)
     → new.number ≡ link.number
     → Becomes before front new back (after first before) (after first later)
-    → IsShared core' (after first later).shared
+    → seen.stands core' (after first later).shared
     → ((n : ℕ) → is_closed later n ≡ is_closed before n)
     → ((n : ℕ) → n ≢ link.number → sent later n ≡ sent before n)
     → ((n : ℕ) → n ≢ link.number → is_lost n (events later) ≡ is_lost n (events before))
     → (is_open new.standing ≡ true → is_lost link.number (events later) ≡ false)
     → Answered (is_lost link.number (events later)) (sent later link.number) new.queue.items ((after first later).out link.number)
-    → Serves first before (holding core (front ++ link ∷ back) last)
-    → Serves first later (holding core' (front ++ new ∷ back) last)
-serves-link first before later core core' front link new back last e becomes stands closed_same sent_same lost_same linked answers serves =
+    → Serves seen first before (holding core (front ++ link ∷ back) last)
+    → Serves seen first later (holding core' (front ++ new ∷ back) last)
+serves-link seen first before later core core' front link new back last e becomes stands closed_same sent_same lost_same linked answers serves =
     let ordered = ascending-becomes 0 front link new back last e serves.ordered in
     let within : link.number ≤ last = ascending-within link.number back last (ascending-here 0 front link back last serves.ordered).1 in
     record {
@@ -91,22 +91,22 @@ serves-link first before later core core' front link new back last e becomes sta
     }
 
 -- the session of a link that is held
-held-at : (first : World) (before : List PortCall) (core : Core) (front : List Link) (link : Link) (back : List Link) (last : ℕ)
-    → Serves first before (holding core (front ++ link ∷ back) last)
+pub held-at : {C : Type 0} (seen : CoreSeen C) (first : World) (before : List PortCall) (core : C) (front : List Link) (link : Link) (back : List Link) (last : ℕ)
+    → Serves seen first before (holding core (front ++ link ∷ back) last)
     → (is_closed before link.number ≡ false) × (session_at link.number (after first before).sessions ≡ Some (session_of link))
-held-at first before core front link back last serves =
+held-at seen first before core front link back last serves =
     let found : session_at link.number (filter (is_kept before) (after first before).sessions) ≡ Some (session_of link)
     = subst (λ (ss : List Session). session_at link.number ss ≡ Some (session_of link)) serves.sessions (at-here link.number 0 front link back last refl serves.ordered) in
     let kept = found-kept before link.number (session_of link) (after first before).sessions found in
     (kept, sym (at-kept before link.number (after first before).sessions kept) ∙ found)
 
 -- nothing happened
-becomes-same : (first : World) (before : List PortCall) (m' : Machine) (core : Core) (front : List Link) (link new : Link) (back : List Link) (last : ℕ)
+becomes-same : {C : Type 0} (seen : CoreSeen C) (first : World) (before : List PortCall) (m' : Machine) (core : C) (front : List Link) (link new : Link) (back : List Link) (last : ℕ)
     → new.number ≡ link.number → session_of new ≡ session_of link → m' ≡ after first before
-    → Serves first before (holding core (front ++ link ∷ back) last)
+    → Serves seen first before (holding core (front ++ link ∷ back) last)
     → Becomes before front new back (after first before) m'
-becomes-same first before m' core front link new back last e s same serves =
-    let at = (held-at first before core front link back last serves).1 in
+becomes-same seen first before m' core front link new back last e s same serves =
+    let at = (held-at seen first before core front link back last serves).1 in
     subst (λ (m : Machine). Becomes before front new back (after first before) m) (sym same)
     (record {
       kept = sym serves.sessions ∙ sessions-same front link new back s;
@@ -118,12 +118,12 @@ becomes-same first before m' core front link new back last e s same serves =
     })
 
 -- the session of the link took part in it
-becomes-takes : (first : World) (before : List PortCall) (m' : Machine) (taking : Taking) (core : Core) (front : List Link) (link new : Link) (back : List Link) (last : ℕ)
+becomes-takes : {C : Type 0} (seen : CoreSeen C) (first : World) (before : List PortCall) (m' : Machine) (taking : Taking) (core : C) (front : List Link) (link new : Link) (back : List Link) (last : ℕ)
     → new.number ≡ link.number → session_of new ≡ taking.session → m' ≡ takes (after first before) taking
-    → Serves first before (holding core (front ++ link ∷ back) last)
+    → Serves seen first before (holding core (front ++ link ∷ back) last)
     → Becomes before front new back (after first before) m'
-becomes-takes first before m' taking core front link new back last e s is serves =
-    let at = held-at first before core front link back last serves in
+becomes-takes seen first before m' taking core front link new back last e s is serves =
+    let at = held-at seen first before core front link back last serves in
     let m = after first before in
     let all : m'.sessions ≡ becomes (session_of new) m.sessions = ap (λ (x : Machine). x.sessions) is ∙ ap (λ (x : Session). becomes x m.sessions) (sym s) in
     let kept : filter (is_kept before) (becomes (session_of new) m.sessions) ≡ map session_of (front ++ new ∷ back)
@@ -139,9 +139,9 @@ becomes-takes first before m' taking core front link new back last e s is serves
 
 -- Before any call.
 
-pub serves_start : (core : Core) (first : World) → IsShared core (record { world = first; parts = [] }) → Serves first [] (holding core [] 0)
+pub serves_start : {C : Type 0} (seen : CoreSeen C) (core : C) (first : World) → seen.stands core (record { world = first; parts = [] }) → Serves seen first [] (holding core [] 0)
 unfolding machine
-serves_start core first stands = record {
+serves_start seen core first stands = record {
   stands = stands;
   sessions = refl;
   answered = λ n. record { whole = λ h. refl; front = λ h. absurd (cc h) };
@@ -167,11 +167,11 @@ event-takes m (Ended who) number s its found =
 event-takes m (Lost who) number s its found =
     let at : session_at who m.sessions ≡ Some s = subst (λ (n : ℕ). session_at n m.sessions ≡ Some s) (sym its) found in of-session m who leaves s at
 
-machine-event : (first : World) (event : PortEvent) (older : List PortEvent) → machine first (event ∷ older) ≡ take_event (machine first older) event
+pub machine-event : (first : World) (event : PortEvent) (older : List PortEvent) → machine first (event ∷ older) ≡ take_event (machine first older) event
 unfolding machine
 machine-event first event older = refl
 
-after-event : (first : World) (before later : List PortCall) (event : PortEvent) (number : ℕ) (s : Session)
+pub after-event : (first : World) (before later : List PortCall) (event : PortEvent) (number : ℕ) (s : Session)
     → IsOfLink number (Some event) → events later ≡ event ∷ events before → session_at number (after first before).sessions ≡ Some s
     → after first later ≡ takes (after first before) (acts (Some event) (after first before).shared s)
 after-event first before later event number s its are found =
@@ -216,46 +216,46 @@ heard-answered lost sent queue out answers s q silent = record {
 }
 
 -- what was sent to a link that is held, and what its queue is
-answers-at : (first : World) (before : List PortCall) (core : Core) (front : List Link) (link : Link) (back : List Link) (last : ℕ)
-    → Serves first before (holding core (front ++ link ∷ back) last)
+answers-at : {C : Type 0} (seen : CoreSeen C) (first : World) (before : List PortCall) (core : C) (front : List Link) (link : Link) (back : List Link) (last : ℕ)
+    → Serves seen first before (holding core (front ++ link ∷ back) last)
     → Answered (is_lost link.number (events before)) (sent before link.number) link.queue.items ((after first before).out link.number)
-answers-at first before core front link back last serves =
+answers-at seen first before core front link back last serves =
     answered-same (is_lost link.number (events before)) (is_lost link.number (events before)) (sent before link.number) (sent before link.number)
     (queue_of link.number (front ++ link ∷ back)) link.queue.items ((after first before).out link.number) ((after first before).out link.number)
     refl refl (sym (queue-here link.number 0 front link back last refl serves.ordered)) refl
     (serves.answered link.number)
 
 -- the link of an open session isn't lost
-linked-at : (first : World) (before : List PortCall) (core : Core) (front : List Link) (link : Link) (back : List Link) (last : ℕ)
-    → Serves first before (holding core (front ++ link ∷ back) last) → is_open link.standing ≡ true → is_lost link.number (events before) ≡ false
-linked-at first before core front link back last serves opened =
-    serves.open_linked link.number (session_of link) (held-at first before core front link back last serves).1 opened
+linked-at : {C : Type 0} (seen : CoreSeen C) (first : World) (before : List PortCall) (core : C) (front : List Link) (link : Link) (back : List Link) (last : ℕ)
+    → Serves seen first before (holding core (front ++ link ∷ back) last) → is_open link.standing ≡ true → is_lost link.number (events before) ≡ false
+linked-at seen first before core front link back last serves opened =
+    serves.open_linked link.number (session_of link) (held-at seen first before core front link back last serves).1 opened
 
-hearing-event : (first : World) (before later : List PortCall) (core core' : Core) (front : List Link) (link new : Link) (back : List Link) (last : ℕ) (event : PortEvent)
+hearing-event : {C : Type 0} (seen : CoreSeen C) (first : World) (before later : List PortCall) (core core' : C) (front : List Link) (link new : Link) (back : List Link) (last : ℕ) (event : PortEvent)
     → new.number ≡ link.number
     → IsOfLink link.number (Some event) → events later ≡ event ∷ events before
     → ((n : ℕ) → sent later n ≡ sent before n) → ((n : ℕ) → is_closed later n ≡ is_closed before n)
     → link.queue.items ≡ [] → is_open link.standing ≡ true
-    → ((shared : Shared) → IsShared core shared → IsTaking core' new (acts (Some event) shared (session_of link)))
-    → Serves first before (holding core (front ++ link ∷ back) last)
-    → Serves first later (holding core' (front ++ new ∷ back) last)
-hearing-event first before later core core' front link new back last event e its are sent_same closed_same empty opened does serves =
+    → ((shared : Shared) → seen.stands core shared → IsTaking seen core' new (acts (Some event) shared (session_of link)))
+    → Serves seen first before (holding core (front ++ link ∷ back) last)
+    → Serves seen first later (holding core' (front ++ new ∷ back) last)
+hearing-event seen first before later core core' front link new back last event e its are sent_same closed_same empty opened does serves =
     let m = after first before in
     let taking : Taking = acts (Some event) m.shared (session_of link) in
-    let done : IsTaking core' new taking = does m.shared serves.stands in
-    let lives = linked-at first before core front link back last serves opened in
+    let done : IsTaking seen core' new taking = does m.shared serves.stands in
+    let lives = linked-at seen first before core front link back last serves opened in
     let own = after-own event (events before) link.number m.shared (session_of link) lives in
     let is : after first later ≡ takes m taking
-    = after-event first before later event link.number (session_of link) its are (held-at first before core front link back last serves).1 in
+    = after-event first before later event link.number (session_of link) its are (held-at seen first before core front link back last serves).1 in
     let number : link.number ≡ taking.session.number = sym e ∙ ap (λ (s : Session). s.number) done.session in
-    let stands : IsShared core' (after first later).shared = subst (λ (x : Machine). IsShared core' x.shared) (sym is) done.stands in
+    let stands : seen.stands core' (after first later).shared = subst (λ (x : Machine). seen.stands core' x.shared) (sym is) done.stands in
     let out : (after first later).out link.number ≡ m.out link.number ++ taking.answers
     = ap (λ (x : Machine). x.out link.number) is ∙ adds-here link.number taking.session.number taking.answers m.out number in
     let was : sent before link.number ≡ m.out link.number
-    = heard-answers (is_lost link.number (events before)) (sent before link.number) (m.out link.number) link.queue.items lives empty (answers-at first before core front link back last serves) in
+    = heard-answers (is_lost link.number (events before)) (sent before link.number) (m.out link.number) link.queue.items lives empty (answers-at seen first before core front link back last serves) in
     let lost_is : (n : ℕ) → is_lost n (events later) ≡ is_lost n (event ∷ events before) = λ n. ap (is_lost n) are in
-    serves-link first before later core core' front link new back last e
-    (becomes-takes first before (after first later) taking core front link new back last e done.session is serves)
+    serves-link seen first before later core core' front link new back last e
+    (becomes-takes seen first before (after first later) taking core front link new back last e done.session is serves)
     stands closed_same (λ n ne. sent_same n)
     (λ n ne. lost_is n ∙ lost-other n link.number event (events before) its ne)
     (λ opened. lost_is link.number ∙ own.0 (sym (ap (λ (s : Session). is_open s.standing) done.session) ∙ opened))
@@ -264,45 +264,45 @@ hearing-event first before later core core' front link new back last event e its
     (λ lost. own.1 (sym (lost_is link.number) ∙ lost))))
     serves
 
-same-event : (first : World) (before later : List PortCall) (core core' : Core) (front : List Link) (link new : Link) (back : List Link) (last : ℕ)
+same-event : {C : Type 0} (seen : CoreSeen C) (first : World) (before later : List PortCall) (core core' : C) (front : List Link) (link new : Link) (back : List Link) (last : ℕ)
     → new.number ≡ link.number → events later ≡ events before
     → ((n : ℕ) → is_closed later n ≡ is_closed before n) → ((n : ℕ) → n ≢ link.number → sent later n ≡ sent before n)
     → core' ≡ core → session_of new ≡ session_of link
     → ((lost : Bool) (out : List ℕ) → Answered lost (sent before link.number) link.queue.items out → Answered lost (sent later link.number) new.queue.items out)
-    → Serves first before (holding core (front ++ link ∷ back) last)
-    → Serves first later (holding core' (front ++ new ∷ back) last)
-same-event first before later core core' front link new back last e are closed_same sent_same c s answers serves =
+    → Serves seen first before (holding core (front ++ link ∷ back) last)
+    → Serves seen first later (holding core' (front ++ new ∷ back) last)
+same-event seen first before later core core' front link new back last e are closed_same sent_same c s answers serves =
     let is : after first later ≡ after first before = ap (machine first) are in
-    let stands : IsShared core' (after first later).shared = subst (λ (x : Machine). IsShared core' x.shared) (sym is) (subst (λ (x : Core). IsShared x (after first before).shared) (sym c) serves.stands) in
-    serves-link first before later core core' front link new back last e
-    (becomes-same first before (after first later) core front link new back last e s is serves)
+    let stands : seen.stands core' (after first later).shared = subst (λ (x : Machine). seen.stands core' x.shared) (sym is) (subst (λ x. seen.stands x (after first before).shared) (sym c) serves.stands) in
+    serves-link seen first before later core core' front link new back last e
+    (becomes-same seen first before (after first later) core front link new back last e s is serves)
     stands closed_same sent_same
     (λ n ne. ap (is_lost n) are)
-    (λ opened. ap (is_lost link.number) are ∙ linked-at first before core front link back last serves (sym (ap (λ (x : Session). is_open x.standing) s) ∙ opened))
+    (λ opened. ap (is_lost link.number) are ∙ linked-at seen first before core front link back last serves (sym (ap (λ (x : Session). is_open x.standing) s) ∙ opened))
     (answers (is_lost link.number (events later)) ((after first later).out link.number)
     (subst (λ (x : Machine). Answered (is_lost link.number (events later)) (sent before link.number) link.queue.items (x.out link.number)) (sym is)
     (subst (λ (es : List PortEvent). Answered (is_lost link.number es) (sent before link.number) link.queue.items ((after first before).out link.number)) (sym are)
-    (answers-at first before core front link back last serves))))
+    (answers-at seen first before core front link back last serves))))
     serves
 
-hearing-at : (first : World) (before later : List PortCall) (core core' : Core) (front : List Link) (link new : Link) (back : List Link) (last : ℕ) (event : Option PortEvent)
-    → (hears : Hears core link core' new before later) → hears.event ≡ event → new.number ≡ link.number
-    → Serves first before (holding core (front ++ link ∷ back) last)
-    → Serves first later (holding core' (front ++ new ∷ back) last)
-hearing-at first before later core core' front link new back last None hears is e serves =
+hearing-at : {C : Type 0} (seen : CoreSeen C) (first : World) (before later : List PortCall) (core core' : C) (front : List Link) (link new : Link) (back : List Link) (last : ℕ) (event : Option PortEvent)
+    → (hears : Hears seen core link core' new before later) → hears.event ≡ event → new.number ≡ link.number
+    → Serves seen first before (holding core (front ++ link ∷ back) last)
+    → Serves seen first later (holding core' (front ++ new ∷ back) last)
+hearing-at seen first before later core core' front link new back last None hears is e serves =
     let nothing = hears.same is in
-    same-event first before later core core' front link new back last e
+    same-event seen first before later core core' front link new back last e
     (hears.events_are ∙ ap (λ (x : Option PortEvent). and_event x (events before)) is)
     hears.closed_same (λ n ne. hears.sent_same n) nothing.0 nothing.1
     (λ lost out a. answered-same lost lost (sent before link.number) (sent later link.number) link.queue.items new.queue.items out out
     refl (hears.sent_same link.number) nothing.2 refl a)
     serves
-hearing-at first before later core core' front link new back last (Some event) hears is e serves =
+hearing-at seen first before later core core' front link new back last (Some event) hears is e serves =
     let happens : hears.event ≢ None = λ f. cc in
-    hearing-event first before later core core' front link new back last event e
+    hearing-event seen first before later core core' front link new back last event e
     (subst (IsOfLink link.number) is hears.its) (hears.events_are ∙ ap (λ (x : Option PortEvent). and_event x (events before)) is)
     hears.sent_same hears.closed_same (hears.idle happens) (hears.was_open happens)
-    (λ shared stands. subst (λ (x : Option PortEvent). IsTaking core' new (acts x shared (session_of link))) is (hears.does happens shared stands))
+    (λ shared stands. subst (λ (x : Option PortEvent). IsTaking seen core' new (acts x shared (session_of link))) is (hears.does happens shared stands))
     serves
 
 -- A link was offered its queue.
@@ -325,67 +325,67 @@ offered-some lost sent sent' queue queue' out whole idle a = record {
       (same.0, ((a.front l).1.0, (a.front l).1.1 ∙ ap (λ (x : List ℕ). x ++ (a.front l).1.0) (sym same.1)));
 }
 
-offered-loss : (first : World) (before later : List PortCall) (core core' : Core) (front : List Link) (link new : Link) (back : List Link) (last : ℕ) (event : PortEvent)
+offered-loss : {C : Type 0} (seen : CoreSeen C) (first : World) (before later : List PortCall) (core core' : C) (front : List Link) (link new : Link) (back : List Link) (last : ℕ) (event : PortEvent)
     → new.number ≡ link.number
     → IsLossOf link.number (Some event) → events later ≡ event ∷ events before
     → ((n : ℕ) → n ≢ link.number → sent later n ≡ sent before n) → ((n : ℕ) → is_closed later n ≡ is_closed before n)
     → new.queue.items ≡ [] → sent later link.number ≡ sent before link.number
-    → ((shared : Shared) → IsShared core shared → (IsShared core' (acts (Some event) shared (session_of link)).shared) × (session_of new ≡ (acts (Some event) shared (session_of link)).session))
-    → Serves first before (holding core (front ++ link ∷ back) last)
-    → Serves first later (holding core' (front ++ new ∷ back) last)
-offered-loss first before later core core' front link new back last (Opened who kind) e its are sent_same closed_same empty sent_here does serves = absurd its
-offered-loss first before later core core' front link new back last (Piece who piece moment) e its are sent_same closed_same empty sent_here does serves = absurd its
-offered-loss first before later core core' front link new back last (Ended who) e its are sent_same closed_same empty sent_here does serves = absurd its
-offered-loss first before later core core' front link new back last (Lost who) e its are sent_same closed_same empty sent_here does serves =
+    → ((shared : Shared) → seen.stands core shared → (seen.stands core' (acts (Some event) shared (session_of link)).shared) × (session_of new ≡ (acts (Some event) shared (session_of link)).session))
+    → Serves seen first before (holding core (front ++ link ∷ back) last)
+    → Serves seen first later (holding core' (front ++ new ∷ back) last)
+offered-loss seen first before later core core' front link new back last (Opened who kind) e its are sent_same closed_same empty sent_here does serves = absurd its
+offered-loss seen first before later core core' front link new back last (Piece who piece moment) e its are sent_same closed_same empty sent_here does serves = absurd its
+offered-loss seen first before later core core' front link new back last (Ended who) e its are sent_same closed_same empty sent_here does serves = absurd its
+offered-loss seen first before later core core' front link new back last (Lost who) e its are sent_same closed_same empty sent_here does serves =
     let m = after first before in
     let taking : Taking = acts (Some (Lost who)) m.shared (session_of link) in
     let shut = shuts m.shared (session_of link) (is_open link.standing) refl in
     let done = does m.shared serves.stands in
     let is : after first later ≡ takes m taking
-    = after-event first before later (Lost who) link.number (session_of link) its are (held-at first before core front link back last serves).1 in
-    let stands : IsShared core' (after first later).shared = subst (λ (x : Machine). IsShared core' x.shared) (sym is) done.0 in
+    = after-event first before later (Lost who) link.number (session_of link) its are (held-at seen first before core front link back last serves).1 in
+    let stands : seen.stands core' (after first later).shared = subst (λ (x : Machine). seen.stands core' x.shared) (sym is) done.0 in
     let out : (after first later).out link.number ≡ m.out link.number ++ []
     = ap (λ (x : Machine). x.out link.number) is ∙ adds-here link.number taking.session.number taking.answers m.out (sym shut.2) ∙ ap (λ (x : List ℕ). m.out link.number ++ x) shut.1 in
     let itself : is_loss link.number (Lost who) ≡ true = same who link.number its in
     let lost : is_lost link.number (events later) ≡ true = ap (is_lost link.number) are ∙ rw itself refl in
-    serves-link first before later core core' front link new back last e
-    (becomes-takes first before (after first later) taking core front link new back last e done.1 is serves)
+    serves-link seen first before later core core' front link new back last e
+    (becomes-takes seen first before (after first later) taking core front link new back last e done.1 is serves)
     stands closed_same sent_same
     (λ n ne. ap (is_lost n) are ∙ lost-other n link.number (Lost who) (events before) its ne)
     (λ opened. let bad : true ≡ false = sym opened ∙ ap (λ (s : Session). is_open s.standing) done.1 ∙ shut.0 in cc)
     (subst (Answered (is_lost link.number (events later)) (sent later link.number) new.queue.items) (sym out)
     (subst (λ (b : Bool). Answered b (sent later link.number) new.queue.items (m.out link.number ++ [])) (sym lost)
     (offered-lost (is_lost link.number (events before)) (sent before link.number) (sent later link.number) link.queue.items new.queue.items (m.out link.number) sent_here empty
-    (answers-at first before core front link back last serves))))
+    (answers-at seen first before core front link back last serves))))
     serves
 
-offering-at : (first : World) (before later : List PortCall) (core core' : Core) (front : List Link) (link new : Link) (back : List Link) (last : ℕ) (event : Option PortEvent)
-    → (offered : Offered core link core' new before later) → offered.event ≡ event → new.number ≡ link.number
-    → Serves first before (holding core (front ++ link ∷ back) last)
-    → Serves first later (holding core' (front ++ new ∷ back) last)
-offering-at first before later core core' front link new back last None offered is e serves =
+offering-at : {C : Type 0} (seen : CoreSeen C) (first : World) (before later : List PortCall) (core core' : C) (front : List Link) (link new : Link) (back : List Link) (last : ℕ) (event : Option PortEvent)
+    → (offered : Offered seen core link core' new before later) → offered.event ≡ event → new.number ≡ link.number
+    → Serves seen first before (holding core (front ++ link ∷ back) last)
+    → Serves seen first later (holding core' (front ++ new ∷ back) last)
+offering-at seen first before later core core' front link new back last None offered is e serves =
     let nothing = offered.same is in
-    same-event first before later core core' front link new back last e
+    same-event seen first before later core core' front link new back last e
     (offered.events_are ∙ ap (λ (x : Option PortEvent). and_event x (events before)) is)
     offered.closed_same offered.sent_same nothing.0 nothing.1
     (λ lost out a. offered-some lost (sent before link.number) (sent later link.number) link.queue.items new.queue.items out (offered.whole is) offered.idle a)
     serves
-offering-at first before later core core' front link new back last (Some event) offered is e serves =
+offering-at seen first before later core core' front link new back last (Some event) offered is e serves =
     let happens : offered.event ≢ None = λ f. cc in
     let dropped = offered.dropped happens in
-    offered-loss first before later core core' front link new back last event e
+    offered-loss seen first before later core core' front link new back last event e
     (subst (IsLossOf link.number) is offered.its) (offered.events_are ∙ ap (λ (x : Option PortEvent). and_event x (events before)) is)
     offered.sent_same offered.closed_same dropped.0 dropped.1
-    (λ shared stands. subst (λ (x : Option PortEvent). (IsShared core' (acts x shared (session_of link)).shared) × (session_of new ≡ (acts x shared (session_of link)).session)) is (offered.no_answer shared stands))
+    (λ shared stands. subst (λ (x : Option PortEvent). (seen.stands core' (acts x shared (session_of link)).shared) × (session_of new ≡ (acts x shared (session_of link)).session)) is (offered.no_answer shared stands))
     serves
 
 -- A link that isn't open and has nothing to send is closed.
 
-closing-at : (first : World) (history : List PortCall) (core : Core) (front : List Link) (link : Link) (back : List Link) (last : ℕ)
+closing-at : {C : Type 0} (seen : CoreSeen C) (first : World) (history : List PortCall) (core : C) (front : List Link) (link : Link) (back : List Link) (last : ℕ)
     → is_open link.standing ≡ false → link.queue.items ≡ []
-    → Serves first history (holding core (front ++ link ∷ back) last)
-    → Serves first (Close link.number ∷ history) (holding core (front ++ back) last)
-closing-at first history core front link back last shut empty serves =
+    → Serves seen first history (holding core (front ++ link ∷ back) last)
+    → Serves seen first (Close link.number ∷ history) (holding core (front ++ back) last)
+closing-at seen first history core front link back last shut empty serves =
     let m = after first history in
     let within : link.number ≤ last = ascending-within link.number back last (ascending-here 0 front link back last serves.ordered).1 in
     record {
@@ -403,19 +403,19 @@ closing-at first history core front link back last shut empty serves =
       latest = serves.latest;
       later_open = λ n above.
           (rw (apart link.number n (omega (arith, within, above))) (serves.later_open n above).0, (serves.later_open n above).1, (serves.later_open n above).2);
-      open_kept = open_kept-closing history 0 front link back last m.sessions serves.ordered shut (held-at first history core front link back last serves).0 serves.sessions serves.open_kept;
+      open_kept = open_kept-closing history 0 front link back last m.sessions serves.ordered shut (held-at seen first history core front link back last serves).0 serves.sessions serves.open_kept;
       open_linked = serves.open_linked;
     }
 
 -- A link of a new session stands behind the others.
 
-opening-at : (first : World) (history : List PortCall) (core core' : Core) (links : List Link) (link : Link) (last number : ℕ) (kind : Kind) (greeted : Stepped)
-    → IsGreeted core' link (after first history).shared number greeted
+opening-at : {C : Type 0} (seen : CoreSeen C) (first : World) (history : List PortCall) (core core' : C) (links : List Link) (link : Link) (last number : ℕ) (kind : Kind) (greeted : Stepped)
+    → IsGreeted seen core' link (after first history).shared number greeted
     → after first (Accept number (Ok (Some kind)) ∷ history) ≡ opens (after first history) number greeted
     → number ≡ last + 1
-    → Serves first history (holding core links last)
-    → Serves first (Accept number (Ok (Some kind)) ∷ history) (holding core' (links ++ link ∷ []) number)
-opening-at first history core core' links link last number kind greeted done is follows serves =
+    → Serves seen first history (holding core links last)
+    → Serves seen first (Accept number (Ok (Some kind)) ∷ history) (holding core' (links ++ link ∷ []) number)
+opening-at seen first history core core' links link last number kind greeted done is follows serves =
     let later : List PortCall = Accept number (Ok (Some kind)) ∷ history in
     let m = after first history in
     let m' = after first later in
@@ -431,7 +431,7 @@ opening-at first history core core' links link last number kind greeted done is 
     let out : m'.out link.number ≡ m.out link.number ++ greeted.answer
     = ap (λ (x : Machine). x.out link.number) is ∙ adds-here link.number number greeted.answer m.out numbered in
     record {
-      stands = subst (λ (x : Machine). IsShared core' x.shared) (sym is) done.stands;
+      stands = subst (λ (x : Machine). seen.stands core' x.shared) (sym is) done.stands;
       sessions = map-append session_of links (link ∷ []) ∙ ap (λ (ss : List Session). ss ++ session_of link ∷ []) serves.sessions
           ∙ sym (ap (filter (is_kept history)) all ∙ filter-append (is_kept history) m.sessions (session_of link ∷ []) ∙ ap (λ (ss : List Session). filter (is_kept history) m.sessions ++ ss) kept_new);
       answered = λ n. cases link.number n
@@ -461,33 +461,33 @@ greeted-session : (link : Link) (number : ℕ) (closes : Bool) (form : Form) (gr
 greeted-session link number closes form greeted n s l c f =
     λ i. record { number = n i; standing = (s ∙ ap standing_after c) i; form = (ap (λ (a : Awaited). a.form) l ∙ f) i; rest = ap (λ (a : Awaited). a.bytes) l i }
 
-pub keeps_opening : (first : World) (history : List PortCall) (held later : Held) (number : ℕ) (kind : Kind)
-    → Opens held later number kind → number ≡ held.last + 1
-    → Serves first history held → Serves first (Accept number (Ok (Some kind)) ∷ history) later
-keeps_opening first history held later number kind opens follows serves =
+pub keeps_opening : {C : Type 0} (seen : CoreSeen C) (first : World) (history : List PortCall) (held later : Held C) (number : ℕ) (kind : Kind)
+    → Opens seen held later number kind → number ≡ held.last + 1
+    → Serves seen first history held → Serves seen first (Accept number (Ok (Some kind)) ∷ history) later
+keeps_opening seen first history held later number kind opens follows serves =
     let m = after first history in
     let others : at_once (map session_of held.links) ≡ at_once m.sessions = ap at_once serves.sessions ∙ at_once-kept history m.sessions serves.open_kept in
-    let done : IsGreeted later.core opens.link m.shared number (greeting m.shared number kind (at_once m.sessions))
-    = subst (λ (n : ℕ). IsGreeted later.core opens.link m.shared number (greeting m.shared number kind n)) others (opens.greeted m.shared serves.stands) in
-    subst (λ (xs : List Link). Serves first (Accept number (Ok (Some kind)) ∷ history) (holding later.core xs later.last)) (sym opens.links)
-    (subst (λ (n : ℕ). Serves first (Accept number (Ok (Some kind)) ∷ history) (holding later.core (held.links ++ opens.link ∷ []) n)) (sym opens.last)
-    (opening-at first history held.core later.core held.links opens.link held.last number kind (greeting m.shared number kind (at_once m.sessions)) done
+    let done : IsGreeted seen later.core opens.link m.shared number (greeting m.shared number kind (at_once m.sessions))
+    = subst (λ (n : ℕ). IsGreeted seen later.core opens.link m.shared number (greeting m.shared number kind n)) others (opens.greeted m.shared serves.stands) in
+    subst (λ (xs : List Link). Serves seen first (Accept number (Ok (Some kind)) ∷ history) (holding later.core xs later.last)) (sym opens.links)
+    (subst (λ (n : ℕ). Serves seen first (Accept number (Ok (Some kind)) ∷ history) (holding later.core (held.links ++ opens.link ∷ []) n)) (sym opens.last)
+    (opening-at seen first history held.core later.core held.links opens.link held.last number kind (greeting m.shared number kind (at_once m.sessions)) done
     (machine-event first (Opened number kind) (events history)) follows serves))
 
 -- what a greeting leaves, as the server has it
-pub opening-is : (core mid core' : Core) (links links' : List Link) (link : Link) (last number : ℕ) (kind : Kind) (others : ℕ) (none : List ℕ) (closes : Bool) (form : Form)
+pub opening-is : {C : Type 0} (seen : CoreSeen C) (core mid core' : C) (links links' : List Link) (link : Link) (last number : ℕ) (kind : Kind) (others : ℕ) (none : List ℕ) (closes : Bool) (form : Form)
     → links' ≡ links ++ link ∷ [] → others ≡ count_by (λ link. is_open link.standing) links → none ≡ []
     → link.number ≡ number → link.standing ≡ standing_after closes → link.lexer ≡ record { form = form; bytes = [] }
-    → ((shared : Shared) → IsShared core shared → IsStep mid none link.queue.items closes form shared (greeting shared number kind others))
-    → ((shared : Shared) (stepped : Stepped) → closes ≡ stepped.closes → IsShared mid (stepped_to shared stepped) → IsShared core' (after_step shared number stepped))
-    → Opens (holding core links last) (holding core' links' number) number kind
-opening-is core mid core' links links' link last number kind others none closes form are count nothing numbered stands awaits done settled = record {
+    → ((shared : Shared) → seen.stands core shared → IsStep seen mid none link.queue.items closes form shared (greeting shared number kind others))
+    → ((shared : Shared) (stepped : Stepped) → closes ≡ stepped.closes → seen.stands mid (stepped_to shared stepped) → seen.stands core' (after_step shared number stepped))
+    → Opens seen (holding core links last) (holding core' links' number) number kind
+opening-is seen core mid core' links links' link last number kind others none closes form are count nothing numbered stands awaits done settled = record {
   link = link;
   links = are;
   last = refl;
   greeted = λ shared is_shared.
-      subst (λ (n : ℕ). IsGreeted core' link shared number (greeting shared number kind n)) (count ∙ sym (at_once-links links))
-      (let step : IsStep mid none link.queue.items closes form shared (greeting shared number kind others) = done shared is_shared in
+      subst (λ (n : ℕ). IsGreeted seen core' link shared number (greeting shared number kind n)) (count ∙ sym (at_once-links links))
+      (let step : IsStep seen mid none link.queue.items closes form shared (greeting shared number kind others) = done shared is_shared in
       record {
         stands = settled shared (greeting shared number kind others) step.closing step.stands;
         session = greeted-session link number closes form (greeting shared number kind others) numbered stands awaits step.closing step.form;
@@ -496,8 +496,8 @@ opening-is core mid core' links links' link last number kind others none closes 
 }
 
 -- no link came
-pub keeps_waiting : (first : World) (history : List PortCall) (held : Held) (number : ℕ) → Serves first history held → Serves first (Accept number (Ok None) ∷ history) held
-keeps_waiting first history held number serves = record {
+pub keeps_waiting : {C : Type 0} (seen : CoreSeen C) (first : World) (history : List PortCall) (held : Held C) (number : ℕ) → Serves seen first history held → Serves seen first (Accept number (Ok None) ∷ history) held
+keeps_waiting seen first history held number serves = record {
   stands = serves.stands;
   sessions = serves.sessions;
   answered = serves.answered;
@@ -516,53 +516,53 @@ placed P links i link new at h =
     subst (λ (xs : List Link). P xs (set links i new)) (sym (split-at links i link at))
     (subst (λ (xs : List Link). P (take i links ++ link ∷ drop (suc i) links) xs) (sym (set-at links i link new at)) h)
 
-pub keeps_hearing : (first : World) (before later : List PortCall) (core core' : Core) (links : List Link) (i : ℕ) (link new : Link) (last : ℕ)
-    → slice_get links i ≡ Some link → Hears core link core' new before later → new.number ≡ link.number
-    → Serves first before (holding core links last) → Serves first later (holding core' (set links i new) last)
-keeps_hearing first before later core core' links i link new last at hears e =
-    placed (λ xs ys. Serves first before (holding core xs last) → Serves first later (holding core' ys last)) links i link new at
-    (hearing-at first before later core core' (take i links) link new (drop (suc i) links) last hears.event hears refl e)
+pub keeps_hearing : {C : Type 0} (seen : CoreSeen C) (first : World) (before later : List PortCall) (core core' : C) (links : List Link) (i : ℕ) (link new : Link) (last : ℕ)
+    → slice_get links i ≡ Some link → Hears seen core link core' new before later → new.number ≡ link.number
+    → Serves seen first before (holding core links last) → Serves seen first later (holding core' (set links i new) last)
+keeps_hearing seen first before later core core' links i link new last at hears e =
+    placed (λ xs ys. Serves seen first before (holding core xs last) → Serves seen first later (holding core' ys last)) links i link new at
+    (hearing-at seen first before later core core' (take i links) link new (drop (suc i) links) last hears.event hears refl e)
 
-pub keeps_offering : (first : World) (before later : List PortCall) (core core' : Core) (links : List Link) (i : ℕ) (link new : Link) (last : ℕ)
-    → slice_get links i ≡ Some link → Offered core link core' new before later → new.number ≡ link.number
-    → Serves first before (holding core links last) → Serves first later (holding core' (set links i new) last)
-keeps_offering first before later core core' links i link new last at offered e =
-    placed (λ xs ys. Serves first before (holding core xs last) → Serves first later (holding core' ys last)) links i link new at
-    (offering-at first before later core core' (take i links) link new (drop (suc i) links) last offered.event offered refl e)
+pub keeps_offering : {C : Type 0} (seen : CoreSeen C) (first : World) (before later : List PortCall) (core core' : C) (links : List Link) (i : ℕ) (link new : Link) (last : ℕ)
+    → slice_get links i ≡ Some link → Offered seen core link core' new before later → new.number ≡ link.number
+    → Serves seen first before (holding core links last) → Serves seen first later (holding core' (set links i new) last)
+keeps_offering seen first before later core core' links i link new last at offered e =
+    placed (λ xs ys. Serves seen first before (holding core xs last) → Serves seen first later (holding core' ys last)) links i link new at
+    (offering-at seen first before later core core' (take i links) link new (drop (suc i) links) last offered.event offered refl e)
 
 -- calls by which a server that served goes on serving
-pub serving-grows : (Calls : List PortCall → List PortCall → Type 0) (held held' : Held) (old new : Option (List PortCall))
-    → ((first : World) (before later : List PortCall) → Calls before later → Serves first before held → Serves first later held')
-    → Grows Calls old new → Keeps old held new held'
-serving-grows Calls held held' old None step grows first serving = tt
-serving-grows Calls held held' None (Some later) step grows first serving = absurd grows
-serving-grows Calls held held' (Some before) (Some later) step grows first serving = step first before later grows serving
+pub serving-grows : {C : Type 0} (seen : CoreSeen C) (Calls : List PortCall → List PortCall → Type 0) (held held' : Held C) (old new : Option (List PortCall))
+    → ((first : World) (before later : List PortCall) → Calls before later → Serves seen first before held → Serves seen first later held')
+    → Grows Calls old new → Keeps seen old held new held'
+serving-grows seen Calls held held' old None step grows first serving = tt
+serving-grows seen Calls held held' None (Some later) step grows first serving = absurd grows
+serving-grows seen Calls held held' (Some before) (Some later) step grows first serving = step first before later grows serving
 
-pub keeps_hearing_told : (core core' : Core) (links : List Link) (i : ℕ) (link new : Link) (last : ℕ) (old later : Option (List PortCall))
-    → slice_get links i ≡ Some link → new.number ≡ link.number → Grows (Hears core link core' new) old later
-    → Keeps old (holding core links last) later (holding core' (set links i new) last)
-keeps_hearing_told core core' links i link new last old later at e =
-    serving-grows (Hears core link core' new) (holding core links last) (holding core' (set links i new) last) old later
-    (λ first before later hears. keeps_hearing first before later core core' links i link new last at hears e)
+pub keeps_hearing_told : {C : Type 0} (seen : CoreSeen C) (core core' : C) (links : List Link) (i : ℕ) (link new : Link) (last : ℕ) (old later : Option (List PortCall))
+    → slice_get links i ≡ Some link → new.number ≡ link.number → Grows (Hears seen core link core' new) old later
+    → Keeps seen old (holding core links last) later (holding core' (set links i new) last)
+keeps_hearing_told seen core core' links i link new last old later at e =
+    serving-grows seen (Hears seen core link core' new) (holding core links last) (holding core' (set links i new) last) old later
+    (λ first before later hears. keeps_hearing seen first before later core core' links i link new last at hears e)
 
-pub keeps_offering_told : (core core' : Core) (links : List Link) (i : ℕ) (link new : Link) (last : ℕ) (old later : Option (List PortCall))
-    → slice_get links i ≡ Some link → new.number ≡ link.number → Grows (Offered core link core' new) old later
-    → Keeps old (holding core links last) later (holding core' (set links i new) last)
-keeps_offering_told core core' links i link new last old later at e =
-    serving-grows (Offered core link core' new) (holding core links last) (holding core' (set links i new) last) old later
-    (λ first before later offered. keeps_offering first before later core core' links i link new last at offered e)
+pub keeps_offering_told : {C : Type 0} (seen : CoreSeen C) (core core' : C) (links : List Link) (i : ℕ) (link new : Link) (last : ℕ) (old later : Option (List PortCall))
+    → slice_get links i ≡ Some link → new.number ≡ link.number → Grows (Offered seen core link core' new) old later
+    → Keeps seen old (holding core links last) later (holding core' (set links i new) last)
+keeps_offering_told seen core core' links i link new last old later at e =
+    serving-grows seen (Offered seen core link core' new) (holding core links last) (holding core' (set links i new) last) old later
+    (λ first before later offered. keeps_offering seen first before later core core' links i link new last at offered e)
 
-pub keeps_closing : (first : World) (history : List PortCall) (core : Core) (links : List Link) (i : ℕ) (link : Link) (last : ℕ)
+pub keeps_closing : {C : Type 0} (seen : CoreSeen C) (first : World) (history : List PortCall) (core : C) (links : List Link) (i : ℕ) (link : Link) (last : ℕ)
     → slice_get links i ≡ Some link → is_open link.standing ≡ false → link.queue.items ≡ []
-    → Serves first history (holding core links last) → Serves first (Close link.number ∷ history) (holding core (remove links i) last)
-keeps_closing first history core links i link last at shut empty serves =
-    closing-at first history core (take i links) link (drop (suc i) links) last shut empty
-    (subst (λ (xs : List Link). Serves first history (holding core xs last)) (split-at links i link at) serves)
+    → Serves seen first history (holding core links last) → Serves seen first (Close link.number ∷ history) (holding core (remove links i) last)
+keeps_closing seen first history core links i link last at shut empty serves =
+    closing-at seen first history core (take i links) link (drop (suc i) links) last shut empty
+    (subst (λ (xs : List Link). Serves seen first history (holding core xs last)) (split-at links i link at) serves)
 
 -- a call by which a server that served goes on serving
-pub keeps_call : (call : PortCall) (held held' : Held) (old new : Option (List PortCall))
-    → ((first : World) (before : List PortCall) → Serves first before held → Serves first (call ∷ before) held')
-    → Records call old new → Keeps old held new held'
-keeps_call call held held' old None step records first serving = tt
-keeps_call call held held' None (Some later) step records first serving = absurd records
-keeps_call call held held' (Some before) (Some later) step records first serving = subst (λ (calls : List PortCall). Serves first calls held') (sym records) (step first before serving)
+pub keeps_call : {C : Type 0} (seen : CoreSeen C) (call : PortCall) (held held' : Held C) (old new : Option (List PortCall))
+    → ((first : World) (before : List PortCall) → Serves seen first before held → Serves seen first (call ∷ before) held')
+    → Records call old new → Keeps seen old held new held'
+keeps_call seen call held held' old None step records first serving = tt
+keeps_call seen call held held' None (Some later) step records first serving = absurd records
+keeps_call seen call held held' (Some before) (Some later) step records first serving = subst (λ (calls : List PortCall). Serves seen first calls held') (sym records) (step first before serving)

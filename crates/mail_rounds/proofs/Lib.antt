@@ -4,3 +4,5 @@ pub mod Kept
 pub mod Keeping
 pub mod Chains
 pub mod Making
+pub mod Crashes
+pub mod Halfway

@@ -6,9 +6,9 @@ use Rattle.imap_lexer.specs.Lexer.{Awaited}
 use Rattle.mail_model.specs.declared.standing.Standing.{Standing}
 use Rattle.mail_model.specs.Step.{Shared, Stepped, after_step}
 use Rattle.mail_model.specs.Machine.{Session, Taking, is_open, standing_after, taking_of, hears_piece, leaves}
-use Rattle.mail_rounds.specs.declared.shared.Core.{Core}
 use Rattle.mail_rounds.specs.declared.link.Link.{Link}
-use Rattle.mail_rounds.specs.Core.{IsShared}
+use Rattle.mail_rounds.specs.CoreSeen.{CoreSeen}
+use Rattle.mail_rounds.specs.Crashes.{TakingCrashes}
 use Rattle.mail_rounds.specs.Held.{session_of}
 
 -- The event, if there is one, is of the link of a number, and opens none.
@@ -32,21 +32,25 @@ acts (Some (Piece who piece moment)) shared session = hears_piece moment piece s
 acts (Some (Ended who)) shared session = leaves shared session
 acts (Some (Lost who)) shared session = leaves shared session
 
+-- what a session takes, once the session is this one
+abbrev pub in_session : Taking → Session → Taking
+in_session taking session = record { shared = taking.shared; session = session; answers = taking.answers; changes = taking.changes }
+
 -- A core and a link hold what a session's part in an event leaves.
-pub record IsTaking (core : Core) (link : Link) (taking : Taking) : Type 0 where
-  pub stands : IsShared core taking.shared
+pub record IsTaking {C : Type 0} (seen : CoreSeen C) (core : C) (link : Link) (taking : Taking) : Type 0 where
+  pub stands : seen.stands core taking.shared
   pub session : session_of link ≡ taking.session
   pub answers : link.queue.items ≡ taking.answers
 
 -- A link's parts after a step of its session: how it stands, what it awaits, and its queue with the answer added.
-pub record AfterStep (core : Core) (standing : Standing) (lexer : Awaited) (before later : List ℕ) (shared : Shared) (number : ℕ) (stepped : Stepped) : Type 0 where
-  pub stands : IsShared core (after_step shared number stepped)
+pub record AfterStep {C : Type 0} (seen : CoreSeen C) (core : C) (standing : Standing) (lexer : Awaited) (before later : List ℕ) (shared : Shared) (number : ℕ) (stepped : Stepped) : Type 0 where
+  pub stands : seen.stands core (after_step shared number stepped)
   pub standing_is : standing ≡ standing_after stepped.closes
   pub awaits : lexer ≡ record { form = stepped.next; bytes = [] }
   pub answer : later ≡ before ++ stepped.answer
 
 -- A link was asked what came by it, or it was not its turn. Nothing was sent and nothing was closed.
-pub record Hears (core : Core) (link : Link) (core' : Core) (link' : Link) (before later : List PortCall) : Type 0 where
+pub record Hears {C : Type 0} (seen : CoreSeen C) (core : C) (link : Link) (core' : C) (link' : Link) (before later : List PortCall) : Type 0 where
   pub event : Option PortEvent
   pub its : IsOfLink link.number event
   pub events_are : events later ≡ and_event event (events before)
@@ -55,7 +59,7 @@ pub record Hears (core : Core) (link : Link) (core' : Core) (link' : Link) (befo
   pub same : event ≡ None → (core' ≡ core) × (session_of link' ≡ session_of link) × (link'.queue.items ≡ link.queue.items)
   pub idle : event ≢ None → link.queue.items ≡ []
   pub was_open : event ≢ None → is_open link.standing ≡ true
-  pub does : event ≢ None → (shared : Shared) → IsShared core shared → IsTaking core' link' (acts event shared (session_of link))
+  pub does : event ≢ None → (shared : Shared) → seen.stands core shared → IsTaking seen core' link' (acts event shared (session_of link))
 
 -- The event, if there is one, is that the link of a number is lost.
 abbrev pub IsLossOf : ℕ → Option PortEvent → Type 0
@@ -67,7 +71,7 @@ IsLossOf number (Some (Lost who)) = who ≡ number
 
 -- A link was offered what it had to send. What was sent with what is still to be sent is as before, unless the link
 -- was lost: then its queue is dropped.
-pub record Offered (core : Core) (link : Link) (core' : Core) (link' : Link) (before later : List PortCall) : Type 0 where
+pub record Offered {C : Type 0} (seen : CoreSeen C) (core : C) (link : Link) (core' : C) (link' : Link) (before later : List PortCall) : Type 0 where
   pub event : Option PortEvent
   pub its : IsLossOf link.number event
   pub events_are : events later ≡ and_event event (events before)
@@ -76,6 +80,14 @@ pub record Offered (core : Core) (link : Link) (core' : Core) (link' : Link) (be
   pub idle : link.queue.items ≡ [] → (link'.queue.items ≡ []) × (sent later link.number ≡ sent before link.number)
   pub whole : event ≡ None → sent later link.number ++ link'.queue.items ≡ sent before link.number ++ link.queue.items
   pub dropped : event ≢ None → (link'.queue.items ≡ []) × (sent later link.number ≡ sent before link.number)
-  pub no_answer : (shared : Shared) → IsShared core shared
-      → (IsShared core' (acts event shared (session_of link)).shared) × (session_of link' ≡ (acts event shared (session_of link)).session)
+  pub no_answer : (shared : Shared) → seen.stands core shared
+      → (seen.stands core' (acts event shared (session_of link)).shared) × (session_of link' ≡ (acts event shared (session_of link)).session)
   pub same : event ≡ None → (core' ≡ core) × (session_of link' ≡ session_of link)
+
+-- What came by a link while it was asked, whether or not that ended with a fault: a crash leaves the world after some of the
+-- changes that it makes.
+pub record HearingCrashes {C : Type 0} (seen : CoreSeen C) (core : C) (link : Link) (core' : C) (before later : List PortCall) : Type 0 where
+  pub event : Option PortEvent
+  pub its : IsOfLink link.number event
+  pub events_are : events later ≡ and_event event (events before)
+  pub leaves : (shared : Shared) → seen.stands core shared → TakingCrashes seen core core' (taking_of shared (session_of link)) (acts event shared (session_of link))

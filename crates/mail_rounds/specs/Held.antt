@@ -3,18 +3,17 @@ use Rattle.std.specs.Prelude.{ℕ, ◌<◌, ◌≤◌, ◌==◌, List, [], ◌�
 use Rattle.port_model.specs.declared.calls.PortCall.{PortCall}
 use Rattle.mail_model.specs.Machine.{Made, Session, Taking}
 use Rattle.mail_model.specs.Step.{Shared}
-use Rattle.mail_rounds.specs.declared.shared.Core.{Core}
 use Rattle.mail_rounds.specs.declared.link.Link.{Link}
 use Rattle.mail_rounds.specs.declared.server.Server.{Server}
 use Rattle.mail_rounds.specs.Calls.{Due, Grows}
 
 -- The core, the links that aren't closed, and the number of the latest one.
-pub record Held : Type 0 where
-  pub core : Core
+pub record Held (C : Type 0) : Type 0 where
+  pub core : C
   pub links : List Link
   pub last : ℕ
 
-abbrev pub held : {D : Type 0} → Server D → Held
+abbrev pub held : {C : Type 0} → Server C → Held C
 held server = record { core = server.core; links = server.links.items; last = server.last }
 
 -- the session of a link

@@ -1,6 +1,8 @@
-pub mod Core
-pub mod Commands
+pub mod CoreSeen
+pub mod Steps
+pub mod Crashes
 pub mod Calls
 pub mod Held
 pub mod Serves
 pub mod Heard
+pub mod Faults

@@ -6,8 +6,8 @@ use Rattle.port_model.specs.History.{events, sent, is_closed}
 use Rattle.mail_model.specs.Step.{World, Shared, Stepped, after_step, greeting}
 use Rattle.mail_model.specs.Machine.{Session, is_open, session_at, after, at_once, standing_after}
 use Rattle.mail_rounds.specs.declared.link.Link.{Link}
-use Rattle.mail_rounds.specs.declared.shared.Core.{Core}
-use Rattle.mail_rounds.specs.Core.{IsShared}
+use Rattle.mail_rounds.specs.declared.server.Server.{Server}
+use Rattle.mail_rounds.specs.CoreSeen.{CoreSeen}
 use Rattle.mail_rounds.specs.Held.{Held, session_of, queue_of, Ascending}
 use Rattle.mail_rounds.specs.Calls.{Grows, is_kept, is_lost}
 
@@ -25,8 +25,8 @@ OpenAreKept history (session ∷ sessions) =
 
 -- After a history that began with this world, the server holds what the machine has: what its core stands for,
 -- and every session whose link isn't closed, in all its parts.
-pub record Serves (first : World) (history : List PortCall) (held : Held) : Type 0 where
-  pub stands : IsShared held.core (after first history).shared
+pub record Serves {C : Type 0} (seen : CoreSeen C) (first : World) (history : List PortCall) (held : Held C) : Type 0 where
+  pub stands : seen.stands held.core (after first history).shared
   pub sessions : map session_of held.links ≡ filter (is_kept history) (after first history).sessions
   pub answered : (number : ℕ) → Answered (is_lost number (events history)) (sent history number) (queue_of number held.links) ((after first history).out number)
   pub ordered : Ascending 0 held.links held.last
@@ -38,28 +38,32 @@ pub record Serves (first : World) (history : List PortCall) (held : Held) : Type
       → is_lost number (events history) ≡ false
 
 -- the same where the history is told
-abbrev pub Serving : World → Option (List PortCall) → Held → Type 0
-Serving first None held = Unit {0}
-Serving first (Some history) held = Serves first history held
+abbrev pub Serving : {C : Type 0} → CoreSeen C → World → Option (List PortCall) → Held C → Type 0
+Serving seen first None held = Unit {0}
+Serving seen first (Some history) held = Serves seen first history held
 
 -- Where the server held what the machine had after the old history, it holds what the machine has after the new one.
-abbrev pub Keeps : Option (List PortCall) → Held → Option (List PortCall) → Held → Type 0
-Keeps old before new later = (first : World) → Serving first old before → Serving first new later
+abbrev pub Keeps : {C : Type 0} → CoreSeen C → Option (List PortCall) → Held C → Option (List PortCall) → Held C → Type 0
+Keeps seen old before new later = (first : World) → Serving seen first old before → Serving seen first new later
 
 -- Where the server held what the machine had after the old history, that grew by such calls.
-abbrev pub Makes : (World → List PortCall → List PortCall → Type 0) → Option (List PortCall) → Held → Option (List PortCall) → Type 0
-Makes Calls old before new = (first : World) → Serving first old before → Grows (Calls first) old new
+abbrev pub Makes : {C : Type 0} → CoreSeen C → (World → List PortCall → List PortCall → Type 0) → Option (List PortCall) → Held C → Option (List PortCall) → Type 0
+Makes seen Calls old before new = (first : World) → Serving seen first old before → Grows (Calls first) old new
 
 -- what a greeting leaves of the core and the new link
-pub record IsGreeted (core : Core) (link : Link) (shared : Shared) (number : ℕ) (greeted : Stepped) : Type 0 where
-  pub stands : IsShared core (after_step shared number greeted)
+pub record IsGreeted {C : Type 0} (seen : CoreSeen C) (core : C) (link : Link) (shared : Shared) (number : ℕ) (greeted : Stepped) : Type 0 where
+  pub stands : seen.stands core (after_step shared number greeted)
   pub session : session_of link ≡ record { number = number; standing = standing_after greeted.closes; form = greeted.next; rest = [] }
   pub answer : link.queue.items ≡ greeted.answer
 
 -- A link of a new session stands behind the others: what it was greeted with is in its queue.
-pub record Opens (before later : Held) (number : ℕ) (kind : Kind) : Type 0 where
+pub record Opens {C : Type 0} (seen : CoreSeen C) (before later : Held C) (number : ℕ) (kind : Kind) : Type 0 where
   pub link : Link
   pub links : later.links ≡ before.links ++ link ∷ []
   pub last : later.last ≡ number
-  pub greeted : (shared : Shared) → IsShared before.core shared
-      → IsGreeted later.core link shared number (greeting shared number kind (at_once (map session_of before.links)))
+  pub greeted : (shared : Shared) → seen.stands before.core shared
+      → IsGreeted seen later.core link shared number (greeting shared number kind (at_once (map session_of before.links)))
+
+-- The server is not given up, and its core can be asked.
+abbrev pub IsGoing : {C : Type 0} → CoreSeen C → Server C → Type 0
+IsGoing seen server = (server.spent ≡ false) × seen.ready server.core

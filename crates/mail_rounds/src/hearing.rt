@@ -1,21 +1,22 @@
 //! What comes by one link is taken.
 
-ghost use Rattle.std.specs.Prelude.{ℕ, ◌≡◌, ◌++◌, List, OnOk, None, length, if◌then◌else◌};
+ghost use Rattle.std.specs.Prelude.{ℕ, ◌≡◌, ◌≤◌, ◌++◌, List, OnOk, IfOk, IsErrOf, None, length, take, if◌then◌else◌};
 ghost use Rattle.port_model.specs.Ports.{NeverFall};
 ghost use Rattle.port_model.specs.Streams.{moment};
 ghost use Rattle.imap_lexer.specs.Units.{first, is_prompted};
 ghost use Rattle.mail_model.specs.Step.{World, step, Shared};
 ghost use Rattle.mail_model.specs.Machine.{Taking, go_ahead, take_byte, take_piece};
-ghost use Rattle.mail_rounds.specs.Core.{IsShared};
+ghost use Rattle.mail_rounds.specs.CoreSeen.{SomeRose};
+ghost use Rattle.mail_rounds.specs.Crashes.{MayLeave, TakingCrashes};
 ghost use Rattle.mail_rounds.specs.Calls.{Grows, Asks, read_room};
-ghost use Rattle.mail_rounds.specs.Held.{AtLink};
-ghost use Rattle.mail_rounds.specs.Heard.{Hears, IsTaking, AfterStep};
+ghost use Rattle.mail_rounds.specs.Held.{AtLink, session_of};
+ghost use Rattle.mail_rounds.specs.Heard.{Hears, HearingCrashes, IsTaking, AfterStep, in_session};
 
 use crate::ending::{end_session, settle};
 use crate::link::Link;
-use crate::shared::Core;
+use crate::mail_core::{Core, CoreFault};
 use imap_lexer::{Fed, Lexer, Shown};
-use mail_model::Standing;
+use mail_model::{Standing, steps_record_their_changes};
 use port_model::{PortRead, Ports};
 use std::alloc::AllocError;
 
@@ -23,18 +24,24 @@ use std::alloc::AllocError;
 const LAST_MOMENT: u64 = 253_402_300_799;
 
 /// Does what a whole unit asks, and awaits the next one.
-fn finish_unit(
-    core: &mut Core,
+fn finish_unit<C: Core>(
+    core: &mut C,
     number: u32,
     standing: &mut Standing,
     lexer: &mut Lexer,
     queue: &mut Vec<u8>,
     shown: Shown,
     moment: u64,
-) -> Result<(), AllocError>
-    ensures taken { OnOk result ((shared : Shared) → IsShared core.old shared
-        → AfterStep core.new standing.new lexer.new queue.old.items queue.new.items shared number (step shared number lexer.old.form shown lexer.old.bytes moment)) }
+) -> Result<(), CoreFault>
+    requires { C.seen.ready core.old }
+    ensures taken { OnOk result ((shared : Shared) → C.seen.stands core.old shared
+        → AfterStep C.seen core.new standing.new lexer.new queue.old.items queue.new.items shared number (step shared number lexer.old.form shown lexer.old.bytes moment)) }
     ensures none { first lexer.new.form lexer.new.bytes ≡ None }
+    ensures ready { OnOk result (C.seen.ready core.new) }
+    ensures crash { (shared : Shared) → C.seen.stands core.old shared
+        → MayLeave C.seen core.old core.new shared.world (step shared number lexer.old.form shown lexer.old.bytes moment).change }
+    ensures failed { IsErrOf result CoreFault.Failed → SomeRose (C.seen.faults core.old) (C.seen.faults core.new) }
+    ensures stored { (IsErrOf result CoreFault.Failed → ⊥) → C.seen.faults core.new ≡ C.seen.faults core.old }
 {
     let plain = lexer.is_plain();
     match core.execute(number, plain, shown, lexer.unit(), moment, queue) {
@@ -61,10 +68,21 @@ fn add_prompt(fed: Fed, queue: &mut Vec<u8>) -> Result<(), AllocError>
 }
 
 /// Takes one byte of a link's peer, and does what its unit asks where it is the last one.
-fn serve_byte(core: &mut Core, link: &mut Link, byte: u8, moment: u64) -> Result<(), AllocError>
-    ensures taken { OnOk result ((taking : Taking) → IsTaking core.old link.old taking → IsTaking core.new link.new (take_byte moment taking byte)) }
+fn serve_byte<C: Core>(
+    core: &mut C,
+    link: &mut Link,
+    byte: u8,
+    moment: u64,
+) -> Result<(), CoreFault>
+    requires { C.seen.ready core.old }
+    ensures taken { OnOk result ((taking : Taking) → IsTaking C.seen core.old link.old taking → IsTaking C.seen core.new link.new (take_byte moment taking byte)) }
     ensures number { link.new.number ≡ link.old.number }
+    ensures ready { OnOk result (C.seen.ready core.new) }
+    ensures crash { (taking : Taking) → IsTaking C.seen core.old link.old taking → TakingCrashes C.seen core.old core.new taking (take_byte moment taking byte) }
+    ensures failed { IsErrOf result CoreFault.Failed → SomeRose (C.seen.faults core.old) (C.seen.faults core.new) }
+    ensures stored { (IsErrOf result CoreFault.Failed → ⊥) → C.seen.faults core.new ≡ C.seen.faults core.old }
 {
+    steps_record_their_changes();
     if !link.standing.is_open() {
         return Ok(());
     }
@@ -74,52 +92,81 @@ fn serve_byte(core: &mut Core, link: &mut Link, byte: u8, moment: u64) -> Result
             add_prompt(fed, &mut link.queue)?;
             Ok(())
         }
-        Some(shown) => {
-            finish_unit(
-                core,
-                link.number,
-                &mut link.standing,
-                &mut link.lexer,
-                &mut link.queue,
-                shown,
-                moment,
-            )?;
-            Ok(())
-        }
+        Some(shown) => finish_unit(
+            core,
+            link.number,
+            &mut link.standing,
+            &mut link.lexer,
+            &mut link.queue,
+            shown,
+            moment,
+        ),
     }
 }
 
-/// Takes a piece that came by a link, byte by byte.
-fn serve_bytes(
-    core: &mut Core,
+/// Takes the bytes of a piece that go on with a literal, and tells how many they are. Where the link isn't open, they are none.
+fn take_literal(link: &mut Link, piece: &[u8]) -> Result<usize, AllocError>
+    ensures within { IfOk result (λ count. count ≤ length piece.now) }
+    ensures taken { IfOk result (λ count. (moment : ℕ) (taking : Taking) → session_of link.old ≡ taking.session
+        → take_piece moment taking (take count piece.now) ≡ in_session taking (session_of link.new)) }
+    ensures queue { link.new.queue.items ≡ link.old.queue.items }
+    ensures number { link.new.number ≡ link.old.number }
+{
+    if !link.standing.is_open() {
+        return Ok(0);
+    }
+    link.lexer.feed_literal(piece)
+}
+
+/// Takes a piece that came by a link, byte by byte, and those of literals together.
+fn serve_bytes<C: Core>(
+    core: &mut C,
     link: &mut Link,
     piece: &[u8],
     moment: u64,
-) -> Result<(), AllocError>
-    ensures taken { OnOk result ((taking : Taking) → IsTaking core.old link.old taking → IsTaking core.new link.new (take_piece moment taking piece.now)) }
+) -> Result<(), CoreFault>
+    requires { C.seen.ready core.old }
+    ensures taken { OnOk result ((taking : Taking) → IsTaking C.seen core.old link.old taking → IsTaking C.seen core.new link.new (take_piece moment taking piece.now)) }
     ensures number { link.new.number ≡ link.old.number }
+    ensures ready { OnOk result (C.seen.ready core.new) }
+    ensures crash { (taking : Taking) → IsTaking C.seen core.old link.old taking → TakingCrashes C.seen core.old core.new taking (take_piece moment taking piece.now) }
+    ensures failed { IsErrOf result CoreFault.Failed → SomeRose (C.seen.faults core.old) (C.seen.faults core.new) }
+    ensures stored { (IsErrOf result CoreFault.Failed → ⊥) → C.seen.faults core.new ≡ C.seen.faults core.old }
 {
-    'bytes: for byte in piece {
+    steps_record_their_changes();
+    let mut rest = piece;
+    'bytes: while !rest.is_empty() {
+        let count = take_literal(link, rest)?;
+        let Some((byte, behind)) = rest[count..].split_first() else {
+            return Ok(());
+        };
         serve_byte(core, link, *byte, moment)?;
+        rest = behind;
     }
     Ok(())
 }
 
 /// Asks a link that is open and has nothing to send what came by it, and takes that.
-pub(crate) fn hear<P: Ports>(
-    core: &mut Core,
+pub(crate) fn hear<C: Core, P: Ports>(
+    core: &mut C,
     link: &mut Link,
     buffer: &mut [u8],
     ports: &mut P,
-) -> Result<(), AllocError>
-    requires { length buffer.old ≡ read_room }
+) -> Result<(), CoreFault>
+    requires room { length buffer.old ≡ read_room }
+    requires ready { C.seen.ready core.old }
     ensures plan { P.plan ports.new ≡ P.plan ports.old }
     ensures counts { NeverFall (P.listen_faults ports.old) (P.link_faults ports.old) (P.listen_faults ports.new) (P.link_faults ports.new) }
     ensures quiet { P.listen_faults ports.new ≡ P.listen_faults ports.old }
     ensures calls { AtLink Asks link.old (P.history ports.old) (P.history ports.new) }
-    ensures hears { OnOk result (Grows (Hears core.old link.old core.new link.new) (P.history ports.old) (P.history ports.new)) }
+    ensures hears { OnOk result (Grows (Hears C.seen core.old link.old core.new link.new) (P.history ports.old) (P.history ports.new)) }
     ensures number { link.new.number ≡ link.old.number }
+    ensures ready { OnOk result (C.seen.ready core.new) }
+    ensures crash { Grows (HearingCrashes C.seen core.old link.old core.new) (P.history ports.old) (P.history ports.new) }
+    ensures failed { IsErrOf result CoreFault.Failed → SomeRose (C.seen.faults core.old) (C.seen.faults core.new) }
+    ensures stored { (IsErrOf result CoreFault.Failed → ⊥) → C.seen.faults core.new ≡ C.seen.faults core.old }
 {
+    steps_record_their_changes();
     if !link.standing.is_open() || !link.queue.is_empty() {
         return Ok(());
     }

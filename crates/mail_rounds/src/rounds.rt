@@ -1,31 +1,35 @@
 //! The rounds of the server.
 
-ghost use Rattle.std.specs.Prelude.{ℕ, ◌≡◌, ◌≢◌, ◌<◌, ◌≤◌, ◌+◌, false, [], List, Option, OnOk, OnErr, IfOk, IfErr, IsErrOf, IfSome, length, take, drop, slice_get, is_err, is_ok, count_by};
+ghost use Rattle.std.specs.Prelude.{ℕ, ◌≡◌, ◌≢◌, ◌<◌, ◌≤◌, ◌+◌, ◌∷◌, ◌++◌, false, [], List, Option, OnOk, OnErr, IfOk, IfErr, IsErrOf, IfSome, length, take, drop, slice_get, is_err, is_ok, count_by, map};
 ghost use Rattle.fault_counts.specs.Rose.{Rose};
 ghost use Rattle.port_model.specs.Ports.{NeverFall};
 ghost use Rattle.port_model.specs.Chain.{Chain};
-ghost use Rattle.mail_model.specs.Step.{World, Shared};
-ghost use Rattle.mail_model.specs.Machine.{is_open};
+ghost use Rattle.mail_model.specs.Step.{World, Shared, greeting};
+ghost use Rattle.mail_model.specs.Machine.{Made, at_once, is_open};
 ghost use Rattle.mail_rounds.specs.declared.rounds.RoundFault.TheVariants.{NoMemory as RoundNoMemory};
-ghost use Rattle.mail_rounds.specs.Core.{IsShared};
-ghost use Rattle.mail_rounds.specs.Held.{held, Held, AtLink};
+ghost use Rattle.mail_rounds.specs.CoreSeen.{LeavesFiles, SomeRose};
+ghost use Rattle.mail_rounds.specs.Crashes.{GreetingCrashes, MachineCrashes};
+ghost use Rattle.mail_rounds.specs.Held.{held, Held, AtLink, session_of};
 ghost use Rattle.mail_rounds.specs.Calls.{Grows, Offers, Asks, Closes, Accepts, Flushes, TakesSome, Takes, RoundsSome, Rounds};
-ghost use Rattle.mail_rounds.specs.Serves.{Keeps, Makes, Serves, Opens};
+ghost use Rattle.mail_rounds.specs.Faults.{fault_of};
+ghost use Rattle.mail_rounds.specs.Serves.{IsGoing, Keeps, Makes, Serves, Opens};
 
 use crate::ending::settle;
 use crate::hearing::hear;
 use crate::link::Link;
+use crate::mail_core::{Core, CoreFault};
 use crate::sending::offer;
-use crate::server::{LoadFault, Server, Unloaded};
-use crate::shared::{Core, SESSION_LIMIT};
-use disk_model::Files;
+use crate::server::{Server, Unserved};
 use imap_lexer::Lexer;
+use mail_model::steps_record_their_changes;
 use port_model::{Kind, ListenFault, Ports};
 use std::alloc::{AllocError, Global};
 
 /// Why a round ended before its end. The server is given up.
 #[derive(Clone, Copy, Debug, PartialEq, Eq)]
 pub enum RoundFault {
+    /// A call on a file of the store failed.
+    StoreFault,
     /// Listening for new links failed.
     ListenFault,
     /// Memory was refused.
@@ -39,6 +43,20 @@ impl From<AllocError> for RoundFault {
         RoundFault::NoMemory
     }
 }
+
+impl From<CoreFault> for RoundFault {
+    ghost from_gives = { λ core_fault fault. fault ≡ fault_of core_fault };
+
+    fn from(fault: CoreFault) -> RoundFault {
+        match fault {
+            CoreFault::Failed => RoundFault::StoreFault,
+            CoreFault::NoMemory => RoundFault::NoMemory,
+        }
+    }
+}
+
+/// How many sessions are served at once.
+pub const SESSION_LIMIT: usize = 64;
 
 /// How many bytes a link is read at a time.
 const READ_ROOM: usize = 65536;
@@ -77,7 +95,6 @@ fn spare_lexer(spare: &mut Vec<Lexer>, lexer: Lexer) {
 /// The memory of a server: room to read into, the table of links, and lexers for them.
 #[derive(Drop)]
 struct Room {
-    core: Core,
     buffer: Vec<u8>,
     links: Vec<Link>,
     spare: Vec<Lexer>,
@@ -87,14 +104,20 @@ struct Room {
 fn new_room(alloc: Global) -> Result<Room, AllocError>
     ensures buffer { IfOk result (λ room. length room.buffer.items ≡ 65536) }
     ensures links { IfOk result (λ room. room.links.items ≡ []) }
-    ensures core { IfOk result (λ room. (first : World) → IsShared room.core (record { world = first; parts = [] })) }
 {
     Ok(Room {
-        core: Core::new(alloc)?,
         buffer: new_buffer(alloc)?,
         links: Vec::with_capacity(alloc, SESSION_LIMIT)?,
         spare: new_lexers(alloc)?,
     })
+}
+
+/// Has a link behind the others.
+fn add_link(links: &mut Vec<Link>, link: Link) -> Result<(), AllocError>
+    ensures { OnOk result (links.new.items ≡ links.old.items ++ link ∷ []) }
+{
+    links.push(link)?;
+    Ok(())
 }
 
 /// How many links are open.
@@ -104,32 +127,27 @@ fn count_open(links: &[Link]) -> usize
     links.iter().filter(|link| link.standing.is_open()).count()
 }
 
-impl<D> Server<D> {
-    /// The server of a store, with no link yet. It touches no file. The memory for the lines of 64 sessions is taken here.
-    pub fn load(alloc: Global, files: Files<D>) -> Result<Server<D>, Unloaded<D>>
-        ensures fresh { IfOk result (λ server. ((held server).links ≡ []) × ((held server).last ≡ 0) × (server.spent ≡ false)) }
-
-        // There is no mail in the files yet, so each world is met.
-        ensures serves { IfOk result (λ server. (first : World) → Serves first [] (held server)) }
-        ensures files { IfOk result (λ server. server.files ≡ files) }
-        ensures back { IfErr result (λ unloaded. unloaded.files ≡ files) }
+impl<C: Core> Server<C> {
+    /// A server over a core, with no link yet. It asks the core nothing. The memory for the lines of 64 sessions is taken
+    /// here.
+    pub fn new(alloc: Global, core: C) -> Result<Server<C>, Unserved<C>>
+        ensures fresh { IfOk result (λ server. ((held server).links ≡ []) × ((held server).last ≡ 0)) }
+        ensures core { IfOk result (λ server. server.core ≡ core) }
+        ensures going { IfOk result (λ server. C.seen.ready core → IsGoing C.seen server) }
+        ensures serves { IfOk result (λ server. (first : World) → C.seen.stands core (record { world = first; parts = [] }) → Serves C.seen first [] (held server)) }
+        ensures back { IfErr result (λ unserved. unserved.core ≡ core) }
     {
         let Ok(room) = new_room(alloc) else {
-            return Err(Unloaded {
-                fault: LoadFault::NoMemory,
-                files,
-            });
+            return Err(Unserved { core });
         };
         let Room {
-            core,
             buffer,
             links,
             spare,
         } = room;
         Ok(Server {
-            files,
-            alloc,
             core,
+            alloc,
             links,
             last: 0,
             buffer,
@@ -145,35 +163,37 @@ impl<D> Server<D> {
         self.last
     }
 
-    /// The files as they are, also from a server that is given up.
-    pub fn into_files(self) -> Files<D>
-        ensures { result ≡ self.files }
+    /// The core as it is, also from a server that is given up.
+    pub fn into_core(self) -> C
+        ensures { result ≡ self.core }
     {
         let Server {
-            files,
+            core,
             alloc: _,
-            core: _,
             links: _,
             last: _,
             buffer: _,
             spare: _,
             spent: _,
         } = self;
-        files
+        core
     }
 
     /// Offers the link at an index what it has to send.
     fn offer_at<P: Ports>(&mut self, i: usize, ports: &mut P)
-        requires { i < length self.old.links.items }
+        requires ready { C.seen.ready self.old.core }
+        requires within { i < length self.old.links.items }
         ensures plan { P.plan ports.new ≡ P.plan ports.old }
         ensures counts { NeverFall (P.listen_faults ports.old) (P.link_faults ports.old) (P.listen_faults ports.new) (P.link_faults ports.new) }
         ensures quiet { P.listen_faults ports.new ≡ P.listen_faults ports.old }
         ensures calls { IfSome (slice_get self.old.links.items i) (λ link. AtLink Offers link (P.history ports.old) (P.history ports.new)) }
-        ensures keeps { Keeps (P.history ports.old) (held self.old) (P.history ports.new) (held self.new) }
+        ensures keeps { Keeps C.seen (P.history ports.old) (held self.old) (P.history ports.new) (held self.new) }
         ensures others { (k : ℕ) → k ≢ i → slice_get self.new.links.items k ≡ slice_get self.old.links.items k }
         ensures count { length self.new.links.items ≡ length self.old.links.items }
         ensures last { self.new.last ≡ self.old.last }
-        ensures files { self.new.files ≡ self.old.files }
+        ensures ready { C.seen.ready self.new.core }
+        ensures files { LeavesFiles C.seen self.old.core self.new.core }
+        ensures crash { Makes C.seen (MachineCrashes C.seen self.old.core self.new.core) (P.history ports.old) (held self.old) (P.history ports.new) }
         ensures spent { self.new.spent ≡ self.old.spent }
     {
         offer(&mut self.core, &mut self.links[i], ports);
@@ -181,12 +201,15 @@ impl<D> Server<D> {
 
     /// Offers each link what it has to send.
     fn offer_all<P: Ports>(&mut self, ports: &mut P)
+        requires ready { C.seen.ready self.old.core }
         ensures plan { P.plan ports.new ≡ P.plan ports.old }
         ensures counts { NeverFall (P.listen_faults ports.old) (P.link_faults ports.old) (P.listen_faults ports.new) (P.link_faults ports.new) }
         ensures quiet { P.listen_faults ports.new ≡ P.listen_faults ports.old }
         ensures calls { Chain (AtLink Offers) self.old.links.items (P.history ports.old) (P.history ports.new) }
-        ensures keeps { Keeps (P.history ports.old) (held self.old) (P.history ports.new) (held self.new) }
-        ensures files { self.new.files ≡ self.old.files }
+        ensures keeps { Keeps C.seen (P.history ports.old) (held self.old) (P.history ports.new) (held self.new) }
+        ensures ready { C.seen.ready self.new.core }
+        ensures files { LeavesFiles C.seen self.old.core self.new.core }
+        ensures crash { Makes C.seen (MachineCrashes C.seen self.old.core self.new.core) (P.history ports.old) (held self.old) (P.history ports.new) }
         ensures spent { self.new.spent ≡ self.old.spent }
     {
         'offers: for i in 0..self.links.len() {
@@ -201,11 +224,12 @@ impl<D> Server<D> {
         ensures counts { NeverFall (P.listen_faults ports.old) (P.link_faults ports.old) (P.listen_faults ports.new) (P.link_faults ports.new) }
         ensures quiet { P.listen_faults ports.new ≡ P.listen_faults ports.old }
         ensures calls { IfSome (slice_get self.old.links.items i) (λ link. AtLink Closes link (P.history ports.old) (P.history ports.new)) }
-        ensures keeps { Keeps (P.history ports.old) (held self.old) (P.history ports.new) (held self.new) }
+        ensures keeps { Keeps C.seen (P.history ports.old) (held self.old) (P.history ports.new) (held self.new) }
         ensures rest { drop result self.new.links.items ≡ drop (i + 1) self.old.links.items }
         ensures within { (result ≤ length self.new.links.items) × (length self.new.links.items ≤ length self.old.links.items) }
         ensures index { result + length self.old.links.items ≡ i + 1 + length self.new.links.items }
-        ensures files { self.new.files ≡ self.old.files }
+        ensures core { self.new.core ≡ self.old.core }
+        ensures crash { Makes C.seen (MachineCrashes C.seen self.old.core self.new.core) (P.history ports.old) (held self.old) (P.history ports.new) }
         ensures spent { self.new.spent ≡ self.old.spent }
     {
         let link = &self.links[i];
@@ -229,8 +253,9 @@ impl<D> Server<D> {
         ensures counts { NeverFall (P.listen_faults ports.old) (P.link_faults ports.old) (P.listen_faults ports.new) (P.link_faults ports.new) }
         ensures quiet { P.listen_faults ports.new ≡ P.listen_faults ports.old }
         ensures calls { Chain (AtLink Closes) self.old.links.items (P.history ports.old) (P.history ports.new) }
-        ensures keeps { Keeps (P.history ports.old) (held self.old) (P.history ports.new) (held self.new) }
-        ensures files { self.new.files ≡ self.old.files }
+        ensures keeps { Keeps C.seen (P.history ports.old) (held self.old) (P.history ports.new) (held self.new) }
+        ensures core { self.new.core ≡ self.old.core }
+        ensures crash { Makes C.seen (MachineCrashes C.seen self.old.core self.new.core) (P.history ports.old) (held self.old) (P.history ports.new) }
         ensures spent { self.new.spent ≡ self.old.spent }
     {
         let mut i = 0;
@@ -242,53 +267,65 @@ impl<D> Server<D> {
     /// Offers every link what it has to send, and then closes those whose session is over and which have nothing to
     /// send any more. It takes no memory.
     pub fn flush<P: Ports>(&mut self, ports: &mut P)
-        requires { self.old.spent ≡ false }
+        requires { IsGoing C.seen self.old }
         ensures plan { P.plan ports.new ≡ P.plan ports.old }
         ensures counts { NeverFall (P.listen_faults ports.old) (P.link_faults ports.old) (P.listen_faults ports.new) (P.link_faults ports.new) }
         ensures quiet { P.listen_faults ports.new ≡ P.listen_faults ports.old }
-        ensures calls { Makes Flushes (P.history ports.old) (held self.old) (P.history ports.new) }
-        ensures keeps { Keeps (P.history ports.old) (held self.old) (P.history ports.new) (held self.new) }
-        ensures files { self.new.files ≡ self.old.files }
-        ensures spent { self.new.spent ≡ false }
+        ensures calls { Makes C.seen Flushes (P.history ports.old) (held self.old) (P.history ports.new) }
+        ensures keeps { Keeps C.seen (P.history ports.old) (held self.old) (P.history ports.new) (held self.new) }
+        ensures files { LeavesFiles C.seen self.old.core self.new.core }
+        ensures crash { Makes C.seen (MachineCrashes C.seen self.old.core self.new.core) (P.history ports.old) (held self.old) (P.history ports.new) }
+        ensures going { IsGoing C.seen self.new }
     {
         self.offer_all(ports);
         self.close_all(ports);
     }
 
     /// Has a link of a new session.
-    fn open(&mut self, number: u32, kind: Kind) -> Result<(), AllocError>
-        requires { number ≡ self.old.last + 1 }
-        ensures opens { OnOk result (Opens (held self.old) (held self.new) number kind) }
+    fn open(&mut self, number: u32, kind: Kind) -> Result<(), CoreFault>
+        requires next { number ≡ self.old.last + 1 }
+        requires ready { C.seen.ready self.old.core }
+        ensures opens { OnOk result (Opens C.seen (held self.old) (held self.new) number kind) }
         ensures front { OnOk result (take (length self.old.links.items) self.new.links.items ≡ self.old.links.items) }
-        ensures files { self.new.files ≡ self.old.files }
+        ensures ready { OnOk result (C.seen.ready self.new.core) }
+        ensures crash { (shared : Shared) (from : ℕ) (changes : List Made) → C.seen.stands self.old.core shared
+            → GreetingCrashes C.seen self.old.core self.new.core shared number (greeting shared number kind (at_once (map session_of self.old.links.items))) from changes }
+        ensures failed { IsErrOf result CoreFault.Failed → SomeRose (C.seen.faults self.old.core) (C.seen.faults self.new.core) }
+        ensures stored { (IsErrOf result CoreFault.Failed → ⊥) → C.seen.faults self.new.core ≡ C.seen.faults self.old.core }
         ensures spent { self.new.spent ≡ self.old.spent }
     {
+        steps_record_their_changes();
         let others = count_open(&self.links);
         let mut queue = Vec::new(self.alloc);
         let mut lexer = take_lexer(self.alloc, &mut self.spare)?;
         let outcome = self.core.greet(number, kind, others, &mut queue)?;
         lexer.next(outcome.plain);
         let standing = settle(&mut self.core, number, outcome.closes);
-        self.links.push(Link {
+        let link = Link {
             number,
             standing,
             lexer,
             queue,
-        })?;
+        };
+        add_link(&mut self.links, link)?;
         self.last = number;
         Ok(())
     }
 
     /// Takes a new link, if one came, while numbers last.
     fn accept<P: Ports>(&mut self, ports: &mut P) -> Result<(), RoundFault>
+        requires ready { C.seen.ready self.old.core }
         ensures plan { P.plan ports.new ≡ P.plan ports.old }
         ensures counts { NeverFall (P.listen_faults ports.old) (P.link_faults ports.old) (P.listen_faults ports.new) (P.link_faults ports.new) }
         ensures calls { Grows (Accepts self.old.last) (P.history ports.old) (P.history ports.new) }
-        ensures keeps { OnOk result (Keeps (P.history ports.old) (held self.old) (P.history ports.new) (held self.new)) }
+        ensures keeps { OnOk result (Keeps C.seen (P.history ports.old) (held self.old) (P.history ports.new) (held self.new)) }
         ensures front { OnOk result (take (length self.old.links.items) self.new.links.items ≡ self.old.links.items) }
         ensures listen { IsErrOf result RoundFault.ListenFault → Rose (P.listen_faults ports.old) (P.listen_faults ports.new) }
         ensures quiet { (IsErrOf result RoundFault.ListenFault → ⊥) → P.listen_faults ports.new ≡ P.listen_faults ports.old }
-        ensures files { self.new.files ≡ self.old.files }
+        ensures ready { OnOk result (C.seen.ready self.new.core) }
+        ensures crash { Makes C.seen (MachineCrashes C.seen self.old.core self.new.core) (P.history ports.old) (held self.old) (P.history ports.new) }
+        ensures failed { IsErrOf result RoundFault.StoreFault → SomeRose (C.seen.faults self.old.core) (C.seen.faults self.new.core) }
+        ensures stored { (IsErrOf result RoundFault.StoreFault → ⊥) → C.seen.faults self.new.core ≡ C.seen.faults self.old.core }
         ensures spent { self.new.spent ≡ self.old.spent }
     {
         if self.last == u32::MAX {
@@ -303,31 +340,39 @@ impl<D> Server<D> {
     }
 
     /// Asks the link at an index what came by it, where it is its turn.
-    fn ask<P: Ports>(&mut self, i: usize, ports: &mut P) -> Result<(), AllocError>
-        requires { i < length self.old.links.items }
+    fn ask<P: Ports>(&mut self, i: usize, ports: &mut P) -> Result<(), CoreFault>
+        requires ready { C.seen.ready self.old.core }
+        requires within { i < length self.old.links.items }
         ensures plan { P.plan ports.new ≡ P.plan ports.old }
         ensures counts { NeverFall (P.listen_faults ports.old) (P.link_faults ports.old) (P.listen_faults ports.new) (P.link_faults ports.new) }
         ensures quiet { P.listen_faults ports.new ≡ P.listen_faults ports.old }
         ensures calls { IfSome (slice_get self.old.links.items i) (λ link. AtLink Asks link (P.history ports.old) (P.history ports.new)) }
-        ensures keeps { OnOk result (Keeps (P.history ports.old) (held self.old) (P.history ports.new) (held self.new)) }
+        ensures keeps { OnOk result (Keeps C.seen (P.history ports.old) (held self.old) (P.history ports.new) (held self.new)) }
         ensures others { (k : ℕ) → k ≢ i → slice_get self.new.links.items k ≡ slice_get self.old.links.items k }
         ensures count { length self.new.links.items ≡ length self.old.links.items }
-        ensures files { self.new.files ≡ self.old.files }
+        ensures ready { OnOk result (C.seen.ready self.new.core) }
+        ensures crash { Makes C.seen (MachineCrashes C.seen self.old.core self.new.core) (P.history ports.old) (held self.old) (P.history ports.new) }
+        ensures failed { IsErrOf result CoreFault.Failed → SomeRose (C.seen.faults self.old.core) (C.seen.faults self.new.core) }
+        ensures stored { (IsErrOf result CoreFault.Failed → ⊥) → C.seen.faults self.new.core ≡ C.seen.faults self.old.core }
         ensures spent { self.new.spent ≡ self.old.spent }
     {
         hear(&mut self.core, &mut self.links[i], &mut self.buffer, ports)
     }
 
     /// Asks so many links, from the first, what came by them.
-    fn ask_all<P: Ports>(&mut self, count: usize, ports: &mut P) -> Result<(), AllocError>
-        requires { count ≤ length self.old.links.items }
+    fn ask_all<P: Ports>(&mut self, count: usize, ports: &mut P) -> Result<(), CoreFault>
+        requires ready { C.seen.ready self.old.core }
+        requires within { count ≤ length self.old.links.items }
         ensures plan { P.plan ports.new ≡ P.plan ports.old }
         ensures counts { NeverFall (P.listen_faults ports.old) (P.link_faults ports.old) (P.listen_faults ports.new) (P.link_faults ports.new) }
         ensures quiet { P.listen_faults ports.new ≡ P.listen_faults ports.old }
         ensures calls { OnOk result (Chain (AtLink Asks) (take count self.old.links.items) (P.history ports.old) (P.history ports.new)) }
         ensures part { ((asked : ℕ) × (asked ≤ count) × Chain (AtLink Asks) (take asked self.old.links.items) (P.history ports.old) (P.history ports.new)) }
-        ensures keeps { OnOk result (Keeps (P.history ports.old) (held self.old) (P.history ports.new) (held self.new)) }
-        ensures files { self.new.files ≡ self.old.files }
+        ensures keeps { OnOk result (Keeps C.seen (P.history ports.old) (held self.old) (P.history ports.new) (held self.new)) }
+        ensures ready { OnOk result (C.seen.ready self.new.core) }
+        ensures crash { Makes C.seen (MachineCrashes C.seen self.old.core self.new.core) (P.history ports.old) (held self.old) (P.history ports.new) }
+        ensures failed { IsErrOf result CoreFault.Failed → SomeRose (C.seen.faults self.old.core) (C.seen.faults self.new.core) }
+        ensures stored { (IsErrOf result CoreFault.Failed → ⊥) → C.seen.faults self.new.core ≡ C.seen.faults self.old.core }
         ensures spent { self.new.spent ≡ self.old.spent }
     {
         'asks: for i in 0..count {
@@ -338,14 +383,18 @@ impl<D> Server<D> {
 
     /// The events of one round.
     fn take_events<P: Ports>(&mut self, ports: &mut P) -> Result<(), RoundFault>
+        requires ready { C.seen.ready self.old.core }
         ensures plan { P.plan ports.new ≡ P.plan ports.old }
         ensures counts { NeverFall (P.listen_faults ports.old) (P.link_faults ports.old) (P.listen_faults ports.new) (P.link_faults ports.new) }
-        ensures calls { OnOk result (Makes Takes (P.history ports.old) (held self.old) (P.history ports.new)) }
-        ensures part { ((asked : ℕ) × Makes (TakesSome asked) (P.history ports.old) (held self.old) (P.history ports.new)) }
-        ensures keeps { OnOk result (Keeps (P.history ports.old) (held self.old) (P.history ports.new) (held self.new)) }
+        ensures calls { OnOk result (Makes C.seen Takes (P.history ports.old) (held self.old) (P.history ports.new)) }
+        ensures part { ((asked : ℕ) × Makes C.seen (TakesSome asked) (P.history ports.old) (held self.old) (P.history ports.new)) }
+        ensures keeps { OnOk result (Keeps C.seen (P.history ports.old) (held self.old) (P.history ports.new) (held self.new)) }
         ensures listen { IsErrOf result RoundFault.ListenFault → Rose (P.listen_faults ports.old) (P.listen_faults ports.new) }
         ensures quiet { (IsErrOf result RoundFault.ListenFault → ⊥) → P.listen_faults ports.new ≡ P.listen_faults ports.old }
-        ensures files { self.new.files ≡ self.old.files }
+        ensures ready { OnOk result (C.seen.ready self.new.core) }
+        ensures crash { Makes C.seen (MachineCrashes C.seen self.old.core self.new.core) (P.history ports.old) (held self.old) (P.history ports.new) }
+        ensures failed { IsErrOf result RoundFault.StoreFault → SomeRose (C.seen.faults self.old.core) (C.seen.faults self.new.core) }
+        ensures stored { (IsErrOf result RoundFault.StoreFault → ⊥) → C.seen.faults self.new.core ≡ C.seen.faults self.old.core }
         ensures spent { self.new.spent ≡ self.old.spent }
     {
         let count = self.links.len();
@@ -357,17 +406,22 @@ impl<D> Server<D> {
     /// Takes one new link, if one came, and then what came by each link that is open and has nothing to send, in the
     /// order of their numbers. It sends nothing. After a fault the server is given up.
     pub fn take<P: Ports>(&mut self, ports: &mut P) -> Result<(), RoundFault>
-        requires { self.old.spent ≡ false }
+        requires { IsGoing C.seen self.old }
         ensures plan { P.plan ports.new ≡ P.plan ports.old }
         ensures counts { NeverFall (P.listen_faults ports.old) (P.link_faults ports.old) (P.listen_faults ports.new) (P.link_faults ports.new) }
 
         // The history grew by exactly these calls, and at a fault by a part of them from the front.
-        ensures calls { OnOk result (Makes Takes (P.history ports.old) (held self.old) (P.history ports.new)) }
-        ensures part { ((asked : ℕ) × Makes (TakesSome asked) (P.history ports.old) (held self.old) (P.history ports.new)) }
-        ensures keeps { OnOk result (Keeps (P.history ports.old) (held self.old) (P.history ports.new) (held self.new)) }
+        ensures calls { OnOk result (Makes C.seen Takes (P.history ports.old) (held self.old) (P.history ports.new)) }
+        ensures part { ((asked : ℕ) × Makes C.seen (TakesSome asked) (P.history ports.old) (held self.old) (P.history ports.new)) }
+        ensures keeps { OnOk result (Keeps C.seen (P.history ports.old) (held self.old) (P.history ports.new) (held self.new)) }
         ensures listen { IsErrOf result RoundFault.ListenFault → Rose (P.listen_faults ports.old) (P.listen_faults ports.new) }
         ensures quiet { (IsErrOf result RoundFault.ListenFault → ⊥) → P.listen_faults ports.new ≡ P.listen_faults ports.old }
-        ensures files { self.new.files ≡ self.old.files }
+        ensures going { OnOk result (IsGoing C.seen self.new) }
+
+        // With whatever answer, a crash leaves the world after some of the changes that the new history has more.
+        ensures crash { Makes C.seen (MachineCrashes C.seen self.old.core self.new.core) (P.history ports.old) (held self.old) (P.history ports.new) }
+        ensures failed { IsErrOf result RoundFault.StoreFault → SomeRose (C.seen.faults self.old.core) (C.seen.faults self.new.core) }
+        ensures stored { (IsErrOf result RoundFault.StoreFault → ⊥) → C.seen.faults self.new.core ≡ C.seen.faults self.old.core }
         ensures spent { self.new.spent ≡ is_err result }
     {
         let outcome = self.take_events(ports);
@@ -377,17 +431,22 @@ impl<D> Server<D> {
 
     /// One round: `flush`, then `take`. So a byte that is sent answers an event of an earlier round.
     pub fn round<P: Ports>(&mut self, ports: &mut P) -> Result<(), RoundFault>
-        requires { self.old.spent ≡ false }
+        requires { IsGoing C.seen self.old }
         ensures plan { P.plan ports.new ≡ P.plan ports.old }
         ensures counts { NeverFall (P.listen_faults ports.old) (P.link_faults ports.old) (P.listen_faults ports.new) (P.link_faults ports.new) }
 
         // The history grew by exactly these calls, and at a fault by a part of them from the front.
-        ensures calls { OnOk result (Makes Rounds (P.history ports.old) (held self.old) (P.history ports.new)) }
-        ensures part { ((asked : ℕ) × Makes (RoundsSome asked) (P.history ports.old) (held self.old) (P.history ports.new)) }
-        ensures keeps { OnOk result (Keeps (P.history ports.old) (held self.old) (P.history ports.new) (held self.new)) }
+        ensures calls { OnOk result (Makes C.seen Rounds (P.history ports.old) (held self.old) (P.history ports.new)) }
+        ensures part { ((asked : ℕ) × Makes C.seen (RoundsSome asked) (P.history ports.old) (held self.old) (P.history ports.new)) }
+        ensures keeps { OnOk result (Keeps C.seen (P.history ports.old) (held self.old) (P.history ports.new) (held self.new)) }
         ensures listen { IsErrOf result RoundFault.ListenFault → Rose (P.listen_faults ports.old) (P.listen_faults ports.new) }
         ensures quiet { (IsErrOf result RoundFault.ListenFault → ⊥) → P.listen_faults ports.new ≡ P.listen_faults ports.old }
-        ensures files { self.new.files ≡ self.old.files }
+        ensures going { OnOk result (IsGoing C.seen self.new) }
+
+        // With whatever answer, a crash leaves the world after some of the changes that the new history has more.
+        ensures crash { Makes C.seen (MachineCrashes C.seen self.old.core self.new.core) (P.history ports.old) (held self.old) (P.history ports.new) }
+        ensures failed { IsErrOf result RoundFault.StoreFault → SomeRose (C.seen.faults self.old.core) (C.seen.faults self.new.core) }
+        ensures stored { (IsErrOf result RoundFault.StoreFault → ⊥) → C.seen.faults self.new.core ≡ C.seen.faults self.old.core }
         ensures spent { self.new.spent ≡ is_err result }
     {
         self.flush(ports);

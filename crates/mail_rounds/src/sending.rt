@@ -2,13 +2,15 @@
 
 ghost use Rattle.std.specs.Prelude.{◌≡◌, List, take, drop, ◌≤◌, length};
 ghost use Rattle.port_model.specs.Ports.{NeverFall};
+ghost use Rattle.mail_rounds.specs.CoreSeen.{LeavesFiles};
 ghost use Rattle.mail_rounds.specs.Calls.{Grows, Offers};
 ghost use Rattle.mail_rounds.specs.Held.{AtLink};
-ghost use Rattle.mail_rounds.specs.Heard.{Offered};
+ghost use Rattle.mail_rounds.specs.Heard.{HearingCrashes, Offered};
 
 use crate::ending::end_session;
 use crate::link::Link;
-use crate::shared::Core;
+use crate::mail_core::Core;
+use mail_model::steps_record_their_changes;
 use port_model::{PortSend, Ports};
 
 /// Takes the first bytes of a queue off.
@@ -22,14 +24,19 @@ fn drop_front(queue: &mut Vec<u8>, count: usize)
 }
 
 /// Offers a link all that it has to send, in one send. The queue of a link that is lost is dropped.
-pub(crate) fn offer<P: Ports>(core: &mut Core, link: &mut Link, ports: &mut P)
+pub(crate) fn offer<C: Core, P: Ports>(core: &mut C, link: &mut Link, ports: &mut P)
+    requires { C.seen.ready core.old }
     ensures plan { P.plan ports.new ≡ P.plan ports.old }
     ensures counts { NeverFall (P.listen_faults ports.old) (P.link_faults ports.old) (P.listen_faults ports.new) (P.link_faults ports.new) }
     ensures quiet { P.listen_faults ports.new ≡ P.listen_faults ports.old }
     ensures calls { AtLink Offers link.old (P.history ports.old) (P.history ports.new) }
-    ensures offered { Grows (Offered core.old link.old core.new link.new) (P.history ports.old) (P.history ports.new) }
+    ensures offered { Grows (Offered C.seen core.old link.old core.new link.new) (P.history ports.old) (P.history ports.new) }
     ensures number { link.new.number ≡ link.old.number }
+    ensures ready { C.seen.ready core.new }
+    ensures crash { Grows (HearingCrashes C.seen core.old link.old core.new) (P.history ports.old) (P.history ports.new) }
+    ensures files { LeavesFiles C.seen core.old core.new }
 {
+    steps_record_their_changes();
     if link.queue.is_empty() {
         return;
     }

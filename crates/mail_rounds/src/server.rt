@@ -1,21 +1,18 @@
-//! The server and its files.
+//! The server and its core.
 
 ghost use Rattle.std.specs.Prelude.{◌≡◌, length};
 
 use crate::link::Link;
-use crate::shared::Core;
-use disk_model::Files;
 use imap_lexer::Lexer;
 use std::alloc::Global;
 
-/// The server of one store.
+/// A server over a core.
 ///
-/// A server on which a call answered a fault is given up: its files can still be taken back.
+/// A server on which a call answered a fault is given up: its core can still be taken back.
 #[derive(Drop)]
-pub struct Server<D> {
-    pub(crate) files: Files<D>,
+pub struct Server<C> {
+    pub(crate) core: C,
     pub(crate) alloc: Global,
-    pub(crate) core: Core,
     /// The links that aren't closed, in the order of their numbers.
     pub(crate) links: Vec<Link>,
     /// The number of the latest link, 0 before the first.
@@ -29,18 +26,9 @@ pub struct Server<D> {
     ghost room: { length buffer.items ≡ 65536 },
 }
 
-/// Why a store can't be loaded.
-#[derive(Clone, Copy, Debug, PartialEq, Eq)]
-pub enum LoadFault {
-    /// Memory was refused.
-    NoMemory,
-}
-
-/// Files that could not be loaded, handed back.
+/// A core that could not be served, since memory was refused, handed back.
 #[derive(Drop)]
-pub struct Unloaded<D> {
-    /// Why.
-    pub fault: LoadFault,
-    /// The files as they are.
-    pub files: Files<D>,
+pub struct Unserved<C> {
+    /// The core as it was.
+    pub core: C,
 }

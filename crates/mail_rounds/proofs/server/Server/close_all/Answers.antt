@@ -1,8 +1,9 @@
-use Rattle.std.proofs.Common.{ℕ, ◌≡◌, ◌<◌, ◌+◌, ◌-◌, length, take, drop, sym, ◌∙◌, ap, subst, arith}
+use Rattle.std.proofs.Common.{ℕ, ◌≡◌, ◌<◌, ◌+◌, ◌-◌, length, take, drop, refl, sym, ◌∙◌, ap, subst, arith}
 use Rattle.std.specs.List.{slice_get}
 use Rattle.port_model.specs.Chain.{Chain}
 use Rattle.mail_rounds.specs.Calls.{Closes}
-use Rattle.mail_rounds.specs.Held.{AtLink}
+use Rattle.mail_rounds.specs.Held.{held, AtLink}
+use Rattle.mail_rounds.proofs.Crashes.{crash_then, crash_same, files-same}
 use Rattle.mail_rounds.proofs.Chains.{chain_more, never_falls, rest-more, rest-at}
 use Rattle.mail_rounds.proofs.server.Server.close_all.Goals as goal
 
@@ -25,6 +26,24 @@ closing-preserved g c =
           (chain_more (AtLink Closes) c.args.self.now.links.items looked (slice_get c.closing.self.links.items c.closing.i) _ _ _ so_far.calls within
           (sym (rest-at c.closing.self.links.items c.args.self.now.links.items c.closing.i looked so_far.rest)) step.calls);
       keeps = λ first serving. step.keeps first (so_far.keeps first serving);
-      files = step.files ∙ so_far.files;
+      core = step.core ∙ so_far.core;
+      crash = crash_then g.C.Core.seen (held c.args.self.now) (held c.closing.self) c.close_or_pass-i.new.self.core (g.P.Ports.history c.args.ports.now) (g.P.Ports.history c.closing.ports) (g.P.Ports.history c.close_or_pass-i.new.ports) so_far.crash so_far.keeps step.crash;
       spent = step.spent ∙ so_far.spent;
+    }
+
+pub closing-init : goal.closing-init
+closing-init g c =
+    let none : 0 + (length c.args.self.now.links.items - length c.args.self.now.links.items) ≡ 0 = omega arith in
+    record {
+      plan = refl;
+      counts = record { listen = omega arith; each = λ n. omega arith };
+      quiet = refl;
+      within = omega arith;
+      fewer = omega arith;
+      rest = ap (λ (k : ℕ). drop k c.args.self.now.links.items) (sym none);
+      calls = subst (λ (k : ℕ). Chain (AtLink Closes) (take k c.args.self.now.links.items) (g.P.Ports.history c.args.ports.now) (g.P.Ports.history c.args.ports.now)) (sym none) refl;
+      keeps = λ first serving. serving;
+      core = refl;
+      crash = crash_same g.C.Core.seen (held c.args.self.now) c.args.self.now.core (g.P.Ports.history c.args.ports.now) (files-same g.C.Core.seen c.args.self.now.core);
+      spent = refl;
     }

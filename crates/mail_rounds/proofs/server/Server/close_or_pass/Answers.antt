@@ -15,9 +15,9 @@ returns-clause-keeps g c =
     let queue = c.index-link.result.now.queue in
     let none : length queue.items ≡ 0 = omega (arith, queue.ok.0, eqb-true queue.len 0 (sym c.is_empty.ensures ∙ c.if-not-is_empty.false)) in
     let empty : queue.items ≡ [] = nil_from_length queue.items none in
-    subst (λ (links : List Link). Keeps (g.P.Ports.history c.args.ports.now) (record { core = c.args.self.now.core; links = c.args.self.now.links.items; last = c.args.self.now.last })
+    subst (λ (links : List Link). Keeps g.C.Core.seen (g.P.Ports.history c.args.ports.now) (record { core = c.args.self.now.core; links = c.args.self.now.links.items; last = c.args.self.now.last })
     (g.P.Ports.history c.close.new.self) (record { core = c.args.self.now.core; links = links; last = c.args.self.now.last })) (sym {A = List Link} c.remove-lexer.ensures.items)
-    (keeps_call (Close c.index-link.result.now.number) _ _ (g.P.Ports.history c.args.ports.now) (g.P.Ports.history c.close.new.self)
-    (λ first before serves. keeps_closing first before c.args.self.now.core c.args.self.now.links.items c.args.i c.index-link.result.now c.args.self.now.last
+    (keeps_call g.C.Core.seen (Close c.index-link.result.now.number) _ _ (g.P.Ports.history c.args.ports.now) (g.P.Ports.history c.close.new.self)
+    (λ first before serves. keeps_closing g.C.Core.seen first before c.args.self.now.core c.args.self.now.links.items c.args.i c.index-link.result.now c.args.self.now.last
     (slice_get_read c.args.self.now.links.items _ c.args.i c.index-link.result.now refl c.requires c.index-link.ensures) shut empty serves)
     c.close.ensures.history)
