@@ -42,7 +42,7 @@ not_failed InUse e = cc
 not_failed Full e = cc
 not_failed NoUid e = cc
 
-not_starved : {T : Type 0} (refusal : Refusal) → error_of T MailFault.NoMemory ≡ error_of T (fault_of refusal) → ⊥
+pub not_starved : {T : Type 0} (refusal : Refusal) → error_of T MailFault.NoMemory ≡ error_of T (fault_of refusal) → ⊥
 not_starved BadName e = cc
 not_starved Absent e = cc
 not_starved Exists e = cc

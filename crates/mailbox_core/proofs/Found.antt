@@ -1,5 +1,5 @@
 -- Rows that are found by their names.
-use Rattle.std.proofs.Common.{◌≡◌, ℕ, Bool, true, false, cond, List, [], ◌∷◌, Option, Some, IsSomeAnd, find, refl, sym, subst, eqb-true}
+use Rattle.std.proofs.Common.{◌≡◌, ℕ, Bool, true, false, cond, List, [], ◌∷◌, Option, Some, IsSomeAnd, ◌==◌, find, refl, sym, subst, eqb-true}
 use Rattle.std.proofs.lemmas.Option.{none-some, same_Some}
 use Rattle.std.specs.Cmp.{second_so}
 use Rattle.ordered_rows.specs.RowKey.{number_key}
@@ -24,3 +24,7 @@ pub owned_row : (laws : InsertLaws mailbox_key) (rows : List Mailbox) (owner : �
 owned_row laws rows owner name row ordered found =
     let owner_is : row.owner ≡ owner = eqb-true row.owner owner (second_so _ _ (find_passes (has_mailbox_name owner name) rows row found)) in
     subst (λ (o : Option Mailbox). IsSomeAnd o (λ r. r.owner ≡ owner)) (sym (laws.at_key (has_mailbox_name owner name) row rows ordered found)) owner_is
+
+-- a mailbox that is found at an id has it
+pub row_is : (rows : List Mailbox) (id : ℕ) (row : Mailbox) → row_at mailbox_key (number_key id) rows ≡ Some row → row.id ≡ id
+row_is rows id row found = eqb-true row.id id (find_passes (λ (r : Mailbox). r.id == id) rows row found)

@@ -29,18 +29,18 @@ module _ {D : Type 0} (told : Told D) where
   if_read files P Q step fact = if_all (told.reading files.log0) (told.reading files.log1) (told.reading files.bodies) P Q step fact
 
   -- what is left since an earlier moment is left now
-  joint_of : (files : Files D) (since : LogMoments) (states : List Stored) → Leaves told files since states → JointlyHolds told files states
+  pub joint_of : (files : Files D) (since : LogMoments) (states : List Stored) → Leaves told files since states → JointlyHolds told files states
   joint_of files since states left =
       if_read files (λ _. LeavesStates told files since states) (λ _. (image : FileBytes) → IsJointImage told files image → HoldsOne image states)
       (λ bytes leaves image joint. leaves.each image (inl (told.now_counts files.log0 since.log0 image.log0 leaves.later0 joint.0, joint.1, joint.2))) left
 
   -- one state more than the files hold
-  joint_more : (files : Files D) (state : Stored) (states : List Stored) → JointlyHolds told files states → JointlyHolds told files (state ∷ states)
+  pub joint_more : (files : Files D) (state : Stored) (states : List Stored) → JointlyHolds told files states → JointlyHolds told files (state ∷ states)
   joint_more files state states joint =
       if_read files (λ _. (image : FileBytes) → IsJointImage told files image → HoldsOne image states) (λ _. (image : FileBytes) → IsJointImage told files image → HoldsOne image (state ∷ states))
       (λ bytes holds image is. inr (holds image is)) joint
 
-  leaves_more : (files : Files D) (since : LogMoments) (state : Stored) (states : List Stored) → Leaves told files since states → Leaves told files since (state ∷ states)
+  pub leaves_more : (files : Files D) (since : LogMoments) (state : Stored) (states : List Stored) → Leaves told files since states → Leaves told files since (state ∷ states)
   leaves_more files since state states left =
       if_read files (λ _. LeavesStates told files since states) (λ _. LeavesStates told files since (state ∷ states))
       (λ bytes leaves. record { later0 = leaves.later0; later1 = leaves.later1; each = λ image is. inr (leaves.each image is) }) left
@@ -56,11 +56,11 @@ module _ {D : Type 0} (told : Told D) where
 
 -- ---- worlds
 
-stand_more : (world : World) (worlds : List World) (states : List Stored) → AllByRecursion (StandsForOne worlds) states → AllByRecursion (StandsForOne (world ∷ worlds)) states
+pub stand_more : (world : World) (worlds : List World) (states : List Stored) → AllByRecursion (StandsForOne worlds) states → AllByRecursion (StandsForOne (world ∷ worlds)) states
 stand_more world worlds [] stand = tt
 stand_more world worlds (state ∷ states) stand = (inr stand.0, stand_more world worlds states stand.1)
 
-stored_stands : (t : TableRows) (world : World) → Stands in_row t world → StandsFor (stored t) world
+pub stored_stands : (t : TableRows) (world : World) → Stands in_row t world → StandsFor (stored t) world
 stored_stands t world stands = record { content = in_row; contents = refl; stands = stands }
 
 module _ {D : Type 0} (told : Told D) {T : Type 0} (result : Result T MailFault) (old new : Store D) (after : TableRows) (world next : World) where

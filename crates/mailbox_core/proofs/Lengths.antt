@@ -14,7 +14,7 @@ pub name_is_text : (name : List ℕ) → is_user_name name ≡ true → IsText n
 unfolding is_user_name
 name_is_text name named = grind (arith, common_steps)
 
-mailbox_is_text : (name : List ℕ) → is_mailbox_name name ≡ true → IsText name
+pub mailbox_is_text : (name : List ℕ) → is_mailbox_name name ≡ true → IsText name
 unfolding is_mailbox_name
 mailbox_is_text name named = grind (arith, common_steps)
 

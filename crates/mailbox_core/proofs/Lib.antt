@@ -8,3 +8,9 @@ pub mod Planning
 pub mod Planned
 pub mod Splitting
 pub mod Taking
+pub mod Arrived
+pub mod Counts
+pub mod DistinctFlags
+pub mod FlagTexts
+pub mod Room
+pub mod Named

@@ -1,4 +1,6 @@
 pub mod Faults
 pub mod Left
 pub mod Calls
+pub mod Messages
 pub mod Rooms
+pub mod Appending

@@ -59,7 +59,7 @@ pub(crate) fn finish_unrefused<D: Disk, T: Drop>(
 }
 
 // A fault of the store, as a call answers it.
-fn told_as(fault: StoreFault) -> MailFault
+pub(crate) fn told_as(fault: StoreFault) -> MailFault
     ensures { result ≡ fault_in fault }
 {
     match fault {

@@ -6,6 +6,8 @@
 #![tactic(auto)]
 
 mod adding;
+mod appending;
+mod arrivals;
 mod faults;
 mod finishing;
 pub mod laws;
@@ -18,6 +20,7 @@ mod rooms;
 mod verifiers;
 
 pub use adding::{add_user, create};
+pub use appending::append;
 pub use faults::MailFault;
 pub use looking::{find, login, user_of};
 pub use names::is_user_name;

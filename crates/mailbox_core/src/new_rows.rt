@@ -90,6 +90,20 @@ fn empty_mailbox(alloc: Global, id: u32, owner: u32, name: &[u8]) -> Result<Mail
     })
 }
 
+// A row of a mailbox, as a row of its own.
+pub(crate) fn copy_of(alloc: Global, row: &Mailbox) -> Result<Mailbox, AllocError>
+    ensures { IfOk result (λ copy. copy ≡ row.now) }
+{
+    Ok(Mailbox {
+        id: row.id,
+        owner: row.owner,
+        name: Octets::new(row.name.as_slice().to_vec(alloc)?),
+        uidnext: row.uidnext,
+        first_recent: row.first_recent,
+        highest: row.highest,
+    })
+}
+
 // The id of the mailbox after one.
 fn id_after(id: u32) -> u32
     ensures { result ≡ next_id id }

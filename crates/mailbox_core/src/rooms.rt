@@ -20,7 +20,7 @@ use std::alloc::Global;
 const MOST_USERS: u64 = 1000;
 
 // How many mailboxes a user may have.
-const MOST_MAILBOXES: u32 = 1000;
+const MOST_MAILBOXES: u64 = 1000;
 
 // What a call commits, and then answers.
 #[derive(Drop)]
@@ -115,18 +115,9 @@ fn room_for_mailbox(tables: &Tables, owner: u32, name: &[u8]) -> Result<u32, Mai
 }
 
 // Whether a user has as many mailboxes as a user may have.
+#[tactic(auto, using(crate::proofs::Counts::mailboxes_counted))]
 fn has_most_mailboxes(tables: &Tables, owner: u32) -> bool
     ensures { result ≡ nat_le most_mailboxes (length (mailboxes_of owner tables.now.heads.mailboxes)) }
 {
-    let mut rows = tables.mailboxes_rows();
-    let mut count: u32 = 0;
-    'rows: while let Some(row) = rows.next() {
-        if row.owner == owner {
-            count += 1;
-            if count == MOST_MAILBOXES {
-                return true;
-            }
-        }
-    }
-    false
+    tables.mailbox_count(owner) >= MOST_MAILBOXES
 }

@@ -1,0 +1,29 @@
+-- Which messages may be appended, and the UID that one gets.
+use Rattle.std.specs.Prelude.{◌≡◌, ℕ, true, List, Option, Some, None}
+use Rattle.std.specs.List.{AllByRecursion, list_all}
+use Rattle.imap_grammar.specs.declared.flags.Flag.{Flag}
+use Rattle.imap_grammar.specs.Flags.{flag_text}
+use Rattle.mime_tree.specs.declared.reasons.Mail.{Mail}
+use Rattle.row_tables.specs.Fits.{IsText}
+use Rattle.shredder.specs.Fitting.{TreeFits}
+use Rattle.mail_world.specs.Flags.{is_flag}
+use Rattle.mail_world.specs.Worlds.{World, Mailbox, mailbox_at}
+use Rattle.mail_stands.specs.Facts.{IsKept}
+
+-- Flags that a message may have: each is written as a text of tables.
+pub record AreProper (flags : List Flag) : Type 0 where
+  pub flags_are : list_all is_flag flags ≡ true
+  pub texts : AllByRecursion (λ flag. IsText (flag_text flag)) flags
+
+-- a mail that was read, or stands for a text that can't be, and whose rows tables can have
+pub record IsMail (mail : Mail) : Type 0 where
+  pub kept : IsKept mail
+  pub fits : TreeFits mail.message
+
+abbrev pub uid_in : Option Mailbox → ℕ
+uid_in None = 0
+uid_in (Some mailbox) = mailbox.head.uidnext
+
+-- the UID of the next message of a mailbox, which is there
+abbrev pub next_uid : World → ℕ → ℕ
+next_uid world id = uid_in (mailbox_at id world.mailboxes)
