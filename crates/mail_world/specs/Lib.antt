@@ -3,6 +3,7 @@ pub mod Flags
 pub mod Worlds
 pub mod Looking
 pub mod Limits
+pub mod Summaries
 pub mod Changes
 pub mod Users
 pub mod Subscriptions
