@@ -14,7 +14,7 @@ found_here p x y true r e behind found = subst (λ z. p z ≡ true) (same_Some x
 found_here p x y false r e behind found = behind found
 
 -- what is found passes the test
-find_passes : {X : Type 0} (p : X → Bool) (xs : List X) (y : X) → find p xs ≡ Some y → p y ≡ true
+pub find_passes : {X : Type 0} (p : X → Bool) (xs : List X) (y : X) → find p xs ≡ Some y → p y ≡ true
 find_passes p [] y found = absurd (none-some y found)
 find_passes p (x ∷ xs) y found = found_here p x y (p x) (find p xs) refl (find_passes p xs y) found
 

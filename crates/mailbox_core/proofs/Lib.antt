@@ -14,3 +14,9 @@ pub mod DistinctFlags
 pub mod FlagTexts
 pub mod Room
 pub mod Named
+pub mod Parting
+pub mod Flagged
+pub mod Seen
+pub mod Words
+pub mod KeywordSets
+pub mod Summed

@@ -4,3 +4,5 @@ pub mod Calls
 pub mod Messages
 pub mod Rooms
 pub mod Appending
+pub mod Summing
+pub mod SummaryRows
