@@ -9,6 +9,7 @@ use Rattle.port_model.specs.ScriptPorts.{Scripted, told_history, its_plan}
 use Rattle.mail_model.specs.Machine.{Machine}
 use Rattle.mail_model.specs.Step.{World}
 use Rattle.mail_rounds.specs.Calls.{Grows, Flushes, Rounds}
+use Rattle.mail_rounds.specs.CoreSeen.{CoreSeen}
 use Rattle.mail_rounds.specs.Held.{Held}
 use Rattle.mail_rounds.specs.Serves.{Serves, Serving, Keeps, Makes}
 use Rattle.mail_server.specs.Script.{script_machine}
@@ -24,42 +25,42 @@ on_ok (Err fault) went p = absurd (cc)
 told : (ports : Scripted) → ports.starved ≡ false → told_history ports ≡ Some ports.calls
 told ports h = rw h refl
 
-serving : (first : World) (ports : Scripted) (held : Held) → ports.starved ≡ false → Serves first ports.calls held → Serving first (told_history ports) held
-serving first ports held h serves = subst (λ (o : Option (List PortCall)). Serving first o held) (sym (told ports h)) serves
+serving : {C : Type 0} (seen : CoreSeen C) (first : World) (ports : Scripted) (held : Held C) → ports.starved ≡ false → Serves seen first ports.calls held → Serving seen first (told_history ports) held
+serving seen first ports held h serves = subst (λ (o : Option (List PortCall)). Serving seen first o held) (sym (told ports h)) serves
 
-serves-next : (first : World) (ports ports' : Scripted) (held held' : Held) → ports.starved ≡ false → ports'.starved ≡ false → Keeps (told_history ports) held (told_history ports') held'
-    → Serves first ports.calls held → Serves first ports'.calls held'
-serves-next first ports ports' held held' h h' keeps serves =
-    subst (λ (o : Option (List PortCall)). Serving first o held') (told ports' h') (keeps first (serving first ports held h serves))
+serves-next : {C : Type 0} (seen : CoreSeen C) (first : World) (ports ports' : Scripted) (held held' : Held C) → ports.starved ≡ false → ports'.starved ≡ false → Keeps seen (told_history ports) held (told_history ports') held'
+    → Serves seen first ports.calls held → Serves seen first ports'.calls held'
+serves-next seen first ports ports' held held' h h' keeps serves =
+    subst (λ (o : Option (List PortCall)). Serving seen first o held') (told ports' h') (keeps first (serving seen first ports held h serves))
 
 -- calls that a server makes on ports that recorded all of them
-made : (Calls : World → List PortCall → List PortCall → Type 0) (first : World) (ports ports' : Scripted) (held : Held) → ports.starved ≡ false → ports'.starved ≡ false
-    → Makes Calls (told_history ports) held (told_history ports') → Serves first ports.calls held → Calls first ports.calls ports'.calls
-made Calls first ports ports' held h h' makes serves =
+made : {C : Type 0} (seen : CoreSeen C) (Calls : World → List PortCall → List PortCall → Type 0) (first : World) (ports ports' : Scripted) (held : Held C) → ports.starved ≡ false → ports'.starved ≡ false
+    → Makes seen Calls (told_history ports) held (told_history ports') → Serves seen first ports.calls held → Calls first ports.calls ports'.calls
+made seen Calls first ports ports' held h h' makes serves =
     subst (λ (o : Option (List PortCall)). Grows (Calls first) (Some ports.calls) o) (told ports' h')
-    (subst (λ (o : Option (List PortCall)). Grows (Calls first) o (told_history ports')) (told ports h) (makes first (serving first ports held h serves)))
+    (subst (λ (o : Option (List PortCall)). Grows (Calls first) o (told_history ports')) (told ports h) (makes first (serving seen first ports held h serves)))
 
 -- A script begins on a server that holds nothing.
-pub script_begins : (first : World) (script : List Event) (ports : Scripted) (held : Held) → Serves first [] held
-    → ports ≡ record { plan = plan_of script; calls = []; starved = false; starved_accepts = 0; starved_calls = 0 } → IsOnScript first script ports held
-script_begins first script ports held serves e =
-    subst (λ (p : Scripted). IsOnScript first script p held) (sym e)
+pub script_begins : {C : Type 0} (seen : CoreSeen C) (first : World) (script : List Event) (ports : Scripted) (held : Held C) → Serves seen first [] held
+    → ports ≡ record { plan = plan_of script; calls = []; starved = false; starved_accepts = 0; starved_calls = 0 } → IsOnScript seen first script ports held
+script_begins seen first script ports held serves e =
+    subst (λ (p : Scripted). IsOnScript seen first script p held) (sym e)
     (record { told = refl; plan = refl; serves = serves; turns = 0; had = λ number. []; rounds = (refl, λ number. refl) })
 
 -- A round keeps a server in the middle of a script, and less is left of it.
-pub round_goes_on : (first : World) (script : List Event) (ports ports' : Scripted) (held held' : Held) → AreEvents script → Makes Rounds (told_history ports) held (told_history ports')
-    → Keeps (told_history ports) held (told_history ports') held' → its_plan ports' ≡ its_plan ports → ports'.starved ≡ false → IsPlayed ports'.plan ports'.calls
-    → IsOnScript first script ports held → (playing ports.plan ports.calls).left ≢ []
-    → IsOnScript first script ports' held' × (length (playing ports'.plan ports'.calls).left < length (playing ports.plan ports.calls).left)
-round_goes_on first script ports ports' held held' are makes keeps plan h plays on some =
+pub round_goes_on : {C : Type 0} (seen : CoreSeen C) (first : World) (script : List Event) (ports ports' : Scripted) (held held' : Held C) → AreEvents script → Makes seen Rounds (told_history ports) held (told_history ports')
+    → Keeps seen (told_history ports) held (told_history ports') held' → its_plan ports' ≡ its_plan ports → ports'.starved ≡ false → IsPlayed ports'.plan ports'.calls
+    → IsOnScript seen first script ports held → (playing ports.plan ports.calls).left ≢ []
+    → IsOnScript seen first script ports' held' × (length (playing ports'.plan ports'.calls).left < length (playing ports.plan ports.calls).left)
+round_goes_on seen first script ports ports' held held' are makes keeps plan h plays on some =
     let plan' : ports'.plan ≡ plan_of script = same_Some ports'.plan ports.plan plan ∙ on.plan in
-    let round = made Rounds first ports ports' held on.told h makes on.serves in
+    let round = made seen Rounds first ports ports' held on.told h makes on.serves in
     let some' : left_in script ports.calls ≢ [] = subst (λ (p : Plan). (playing p ports.calls).left ≢ []) on.plan some in
     let less = rounds_less first script on.turns ports.calls round.flushed ports'.calls on.had are on.rounds round.flushes round.takes (subst (λ (p : Plan). IsPlayed p ports'.calls) plan' plays) some' in (
       record {
         told = h;
         plan = plan';
-        serves = serves-next first ports ports' held held' on.told h keeps on.serves;
+        serves = serves-next seen first ports ports' held held' on.told h keeps on.serves;
         turns = suc on.turns;
         had = reached first round.flushed on.had;
         rounds = record { before = ports.calls; had = on.had; earlier = on.rounds; some_left = some'; flushed = round.flushed; flushes = round.flushes; takes = round.takes; got_is = λ number. refl };
@@ -69,18 +70,18 @@ round_goes_on first script ports ports' held held' are makes keeps plan h plays 
     )
 
 -- Once nothing is left and all is flushed, the history plays the script to its end.
-pub script_ends : (first : World) (script : List Event) (ports ports' : Scripted) (held held' : Held) → AreEvents script → Makes Flushes (told_history ports) held (told_history ports')
-    → Keeps (told_history ports) held (told_history ports') held' → its_plan ports' ≡ its_plan ports → ports'.starved ≡ false → IsPlayed ports'.plan ports'.calls
-    → IsOnScript first script ports held → (playing ports.plan ports.calls).left ≡ []
+pub script_ends : {C : Type 0} (seen : CoreSeen C) (first : World) (script : List Event) (ports ports' : Scripted) (held held' : Held C) → AreEvents script → Makes seen Flushes (told_history ports) held (told_history ports')
+    → Keeps seen (told_history ports) held (told_history ports') held' → its_plan ports' ≡ its_plan ports → ports'.starved ≡ false → IsPlayed ports'.plan ports'.calls
+    → IsOnScript seen first script ports held → (playing ports.plan ports.calls).left ≡ []
     → PlaysOut first script ports'.calls × (held'.last ≡ (script_machine first script).last)
-script_ends first script ports ports' held held' are makes keeps plan h plays on done =
+script_ends seen first script ports ports' held held' are makes keeps plan h plays on done =
     let plan' : ports'.plan ≡ plan_of script = same_Some ports'.plan ports.plan plan ∙ on.plan in
     let out = plays_out first script on.turns ports'.calls are (record {
       before = ports.calls;
       had = on.had;
       rounds = on.rounds;
       none_left = subst (λ (p : Plan). (playing p ports.calls).left ≡ []) on.plan done;
-      flushes = made Flushes first ports ports' held on.told h makes on.serves;
+      flushes = made seen Flushes first ports ports' held on.told h makes on.serves;
       answered = subst (λ (p : Plan). IsPlayed p ports'.calls) plan' plays;
     }) in
-    (out, (serves-next first ports ports' held held' on.told h keeps on.serves).latest ∙ ap (λ (m : Machine). m.last) out.machine)
+    (out, (serves-next seen first ports ports' held held' on.told h keeps on.serves).latest ∙ ap (λ (m : Machine). m.last) out.machine)

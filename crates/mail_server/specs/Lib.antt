@@ -1,3 +1,5 @@
+pub mod Bare
+pub mod SessionCommands
 pub mod Script
 pub mod Rounds
 pub mod OnScript

@@ -3,8 +3,11 @@
 #![tactic(auto)]
 
 mod answer;
+mod bare;
 mod canonical;
+mod commands;
 mod laws;
+mod lines;
 mod program;
 mod script;
 mod scripted;
@@ -14,6 +17,8 @@ mod streams;
 mod users;
 mod words;
 
+pub use bare::BareCore;
 pub use laws::one_history_plays_a_script;
-pub use mail_rounds::{LoadFault, RoundFault, Server, Unloaded};
+pub use mail_rounds::{RoundFault, Server};
 pub use program::run;
+pub use script::load;

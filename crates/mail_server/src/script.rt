@@ -8,10 +8,12 @@ ghost use Rattle.mail_server.specs.OnScript.{IsOnScript};
 ghost use Rattle.mail_server.specs.Rounds.{PlaysOut};
 ghost use Rattle.mail_server.specs.Run.{first_world};
 ghost use Rattle.mail_server.specs.Script.{script_machine};
-ghost use Rattle.mail_rounds.specs.Serves.{Serves};
+ghost use Rattle.mail_model.specs.Step.{World};
+ghost use Rattle.mail_rounds.specs.Serves.{IsGoing, Serves};
+ghost use Rattle.mail_server.specs.Bare.{bare_seen};
 
-use disk_model::Files;
-use mail_rounds::{Server, Unloaded};
+use crate::bare::BareCore;
+use mail_rounds::Server;
 use port_model::{Event, ScriptPorts};
 use std::alloc::{AllocError, Global};
 
@@ -24,43 +26,42 @@ pub(crate) struct Played {
     pub(crate) last: u32,
 }
 
-/// Loads the server and runs its rounds over the events of a script until none is left, and then sends what is still
-/// to be sent.
-pub(crate) fn play<D>(
-    alloc: Global,
-    files: Files<D>,
-    events: Vec<Event>,
-) -> (Result<Played, AllocError>, Files<D>)
-    requires kept { AreEvents events.items }
-    ensures recorded { IfOk result.0 (λ played. played.ports.starved ≡ false) }
-    ensures plays { IfOk result.0 (λ played. PlaysOut first_world events.items played.ports.calls) }
-    ensures last { IfOk result.0 (λ played. played.last ≡ (script_machine first_world events.items).last) }
-    ensures files { result.1 ≡ files }
+/// A server without mail, which has no link yet.
+pub fn load(alloc: Global) -> Result<Server<BareCore>, AllocError>
+    ensures serves { IfOk result (λ server. (first : World) → Serves bare_seen first [] (held server)) }
+    ensures going { IfOk result (λ server. IsGoing bare_seen server) }
 {
-    let mut server = match Server::load(alloc, files) {
-        Ok(server) => server,
-        Err(unloaded) => {
-            let Unloaded { fault: _, files } = unloaded;
-            return (Err(AllocError), files);
-        }
-    };
-    let played = play_on(alloc, &mut server, events);
-    (played, server.into_files())
+    let core = BareCore::new(alloc)?;
+    match Server::new(alloc, core) {
+        Ok(server) => Ok(server),
+        Err(_unserved) => Err(AllocError),
+    }
 }
 
-/// Plays a script on a server that has no link yet.
-fn play_on<D>(
-    alloc: Global,
-    server: &mut Server<D>,
-    events: Vec<Event>,
-) -> Result<Played, AllocError>
-    requires fresh { Serves first_world [] (held server.old) }
-    requires unspent { server.old.spent ≡ false }
+/// Loads the server and runs its rounds over the events of a script until none is left, and then sends what is still
+/// to be sent.
+pub(crate) fn play(alloc: Global, events: Vec<Event>) -> Result<Played, AllocError>
     requires kept { AreEvents events.items }
     ensures recorded { IfOk result (λ played. played.ports.starved ≡ false) }
     ensures plays { IfOk result (λ played. PlaysOut first_world events.items played.ports.calls) }
     ensures last { IfOk result (λ played. played.last ≡ (script_machine first_world events.items).last) }
-    ensures files { server.new.files ≡ server.old.files }
+{
+    let mut server = load(alloc)?;
+    play_on(alloc, &mut server, events)
+}
+
+/// Plays a script on a server that has no link yet.
+fn play_on(
+    alloc: Global,
+    server: &mut Server<BareCore>,
+    events: Vec<Event>,
+) -> Result<Played, AllocError>
+    requires fresh { Serves bare_seen first_world [] (held server.old) }
+    requires going { IsGoing bare_seen server.old }
+    requires kept { AreEvents events.items }
+    ensures recorded { IfOk result (λ played. played.ports.starved ≡ false) }
+    ensures plays { IfOk result (λ played. PlaysOut first_world events.items played.ports.calls) }
+    ensures last { IfOk result (λ played. played.last ≡ (script_machine first_world events.items).last) }
 {
     let mut ports = ScriptPorts::new(alloc, events, Vec::new(alloc))?;
     run_rounds(server, &mut ports)?;
@@ -75,14 +76,13 @@ fn play_on<D>(
 }
 
 /// Runs rounds until no event is left.
-fn run_rounds<D>(server: &mut Server<D>, ports: &mut ScriptPorts) -> Result<(), AllocError>
-    requires unspent { server.old.spent ≡ false }
+fn run_rounds(server: &mut Server<BareCore>, ports: &mut ScriptPorts) -> Result<(), AllocError>
+    requires going { IsGoing bare_seen server.old }
     requires kept { AreEvents ports.old.plan.events }
-    requires on_script { IsOnScript first_world ports.old.plan.events ports.old (held server.old) }
-    ensures on_script { OnOk result (IsOnScript first_world ports.old.plan.events ports.new (held server.new)) }
+    requires on_script { IsOnScript bare_seen first_world ports.old.plan.events ports.old (held server.old) }
+    ensures on_script { OnOk result (IsOnScript bare_seen first_world ports.old.plan.events ports.new (held server.new)) }
     ensures done { OnOk result ((playing ports.new.plan ports.new.calls).left ≡ []) }
-    ensures unspent { OnOk result (server.new.spent ≡ false) }
-    ensures files { server.new.files ≡ server.old.files }
+    ensures going { OnOk result (IsGoing bare_seen server.new) }
 {
     'rounds: while !ports.done() {
         if server.round(ports).is_err() || ports.starved() {

@@ -47,8 +47,7 @@ fn answer_events<D>(
     ensures answers { IfOk result.0 (λ answer. EventsEnd (Ok events.items) (end_of answer)) }
     ensures files { result.1 ≡ files }
 {
-    let (played, files) = play(alloc, files, events);
-    let answer = match played {
+    let answer = match play(alloc, events) {
         Ok(played) => print_played(alloc, &played),
         Err(error) => Err(error),
     };

@@ -1,11 +1,13 @@
 //! Runs of the program over sources and sinks in memory.
 
-ghost use Rattle.std.specs.Prelude.{◌≡◌, false};
 ghost use Rattle.port_model.specs.Script.{AreEvents};
+ghost use Rattle.mail_rounds.specs.Serves.{IsGoing};
+ghost use Rattle.mail_server.specs.Bare.{bare_seen};
 
 use disk_model::{Files, MemoryDisk};
-use mail_server::{Server, run};
-use port_model::{Event, FixedClock, MemorySink, MemorySource, ScriptPorts, parse_script};
+use mail_rounds::Core;
+use mail_server::{BareCore, Server, load, run};
+use port_model::{Event, FixedClock, Kind, MemorySink, MemorySource, ScriptPorts, parse_script};
 use std::alloc::{AllocError, Global};
 use std::test::Fail;
 
@@ -224,6 +226,100 @@ fn sixty_four_sessions_are_served_at_once(rt: HostRuntime) -> Result<(), Fail> {
     Ok(())
 }
 
+/// A script in which session 1 sends each of these units, in the form of a script's text.
+fn sends_units(alloc: Global, units: &[&[u8]]) -> Result<Vec<u8>, AllocError> {
+    let mut script = b"open imap\n".to_vec(alloc)?;
+    for unit in units {
+        script.extend_from_slice(b"send 1 0 ")?;
+        script.extend_from_slice(unit)?;
+        script.extend_from_slice(b"\\r\\n\n")?;
+    }
+    Ok(script)
+}
+
+/// What is answered to as many units, each with this line.
+fn answers(alloc: Global, line: &[u8], count: usize) -> Result<Vec<u8>, AllocError> {
+    let mut lines = READY.to_vec(alloc)?;
+    for _ in 0..count {
+        lines.extend_from_slice(line)?;
+    }
+    Ok(lines)
+}
+
+#[test]
+fn units_are_answered_as_they_read(rt: HostRuntime) -> Result<(), Fail> {
+    let alloc = rt.alloc();
+    let cases: [(&[u8], &[&[u8]]); 6] = [
+        (
+            b"1: a OK NOOP completed\\r\\n\n",
+            &[b"a NOOP", b"a noop", b"a NoOp"],
+        ),
+        (b"1: A1.b#] OK NOOP completed\\r\\n\n", &[b"A1.b#] NoOp"]),
+        (b"1: ]x OK NOOP completed\\r\\n\n", &[b"]x NOOP"]),
+        (b"1: !~ OK NOOP completed\\r\\n\n", &[b"!~ NOOP"]),
+        // a tag and a space, and no command behind them
+        (
+            b"1: a BAD syntax\\r\\n\n",
+            &[
+                b"a NoOp ",
+                b"a  NOOP",
+                b"a NOOP x",
+                b"a ",
+                b"a NOOP\\n",
+                b"a NOOP\\r",
+                b"a NO\\x00OP",
+                b"a NOOP\\xe9",
+            ],
+        ),
+        // no tag, or no space behind it
+        (
+            b"1: * BAD syntax\\r\\n\n",
+            &[
+                b"A1.b#]{",
+                b"",
+                b" NOOP",
+                b"NOOP",
+                b"a\\x09NOOP",
+                b"+ NOOP",
+                b"a+ NOOP",
+                b"* NOOP",
+                b"a% NOOP",
+                b"a( NOOP",
+                b"a) NOOP",
+                b"a\" NOOP",
+                b"a\\\\ NOOP",
+                b"a\\x7f NOOP",
+                b"a\\xe9 NOOP",
+                b"\\x00a NOOP",
+                b"a\\nb NOOP",
+                b"a\\r NOOP",
+            ],
+        ),
+    ];
+    for (line, units) in cases {
+        let (status, written) = ran(alloc, "script", &sends_units(alloc, units)?, &[], &[])?;
+        let want = answers(alloc, line, units.len())?;
+        assert_eq!(rt; status, 0);
+        assert_eq!(rt; written.as_slice(), want.as_slice());
+    }
+    Ok(())
+}
+
+#[test]
+fn each_kind_is_greeted(rt: HostRuntime) -> Result<(), Fail> {
+    let mut core = BareCore::new(rt.alloc())?;
+    let mut answer = Vec::new(rt.alloc());
+    let greeted = core.greet(1, Kind::Imap, 0, &mut answer);
+    assert!(rt; greeted.is_ok_and(|outcome| !outcome.closes));
+    let greeted = core.greet(2, Kind::Lmtp, 1, &mut answer);
+    assert!(rt; greeted.is_ok_and(|outcome| outcome.closes));
+    assert_eq!(rt;
+        answer.as_slice(),
+        b"* OK IMAP4rev1 ready\r\n421 4.3.2 LMTP is not served\r\n".as_slice()
+    );
+    Ok(())
+}
+
 /// A script of one line of so many letters, and a command behind it.
 fn long_line(alloc: Global, letters: usize) -> Result<Vec<u8>, AllocError> {
     let mut script = b"open imap\nsend 1 0 ".to_vec(alloc)?;
@@ -252,8 +348,8 @@ fn lines_have_8192_bytes_at_most(rt: HostRuntime) -> Result<(), Fail> {
 }
 
 /// Makes so many rounds.
-fn rounds(server: &mut Server<MemoryDisk>, ports: &mut ScriptPorts, count: u32) -> bool
-    requires { server.old.spent ≡ false }
+fn rounds(server: &mut Server<BareCore>, ports: &mut ScriptPorts, count: u32) -> bool
+    requires { IsGoing bare_seen server.old }
 {
     'rounds: for _ in 0..count {
         if server.round(ports).is_err() {
@@ -273,14 +369,7 @@ fn sent_slowly(alloc: Global, events: Vec<Event>) -> Result<Vec<u8>, AllocError>
         sends.extend_from_slice(&[0, 1, 7])?;
     }
     let mut ports = ScriptPorts::new(alloc, events, sends)?;
-    let files = Files {
-        log0: no_disk(alloc)?,
-        log1: no_disk(alloc)?,
-        bodies: no_disk(alloc)?,
-    };
-    let Ok(mut server) = Server::load(alloc, files) else {
-        return Ok(Vec::new(alloc));
-    };
+    let mut server = load(alloc)?;
     if rounds(&mut server, &mut ports, 40) && ports.done() {
         ports.sent(1).to_vec(alloc)
     } else {

@@ -20,10 +20,10 @@ printed events calls last (Err error) plays is done lines = tt
 pub returns-clause-answers : goal.returns-clause-answers
 returns-clause-answers g c =
     let Answers : Result Answer AllocError → Type 0 = λ result. IfOk result (λ answer. EventsEnd (Ok c.args.events.items) (end_of answer)) in
-    elim c.match-played.branch [
+    elim c.match-play.branch [
       | in-Ok w ↦
-          let plays = rw w.in-Ok.is at c.play-played.ensures.plays in
-          let last = rw w.in-Ok.is at c.play-played.ensures.last in
+          let plays = rw w.in-Ok.is at c.play.ensures.plays in
+          let last = rw w.in-Ok.is at c.play.ensures.last in
           subst Answers (sym w.answer-is) (printed c.args.events.items w.in-Ok.played.ports.calls w.in-Ok.played.last w.print_played-answer.result plays last w.print_played-answer.ensures.status w.print_played-answer.ensures.lines)
       | in-Err w ↦ subst Answers (sym w.answer-is) tt
     ]
