@@ -1,4 +1,4 @@
--- The order in which a view has its messages, and a server its sessions.
+-- The order in which a view has its messages, and which mailboxes sessions have selected.
 use Rattle.std.specs.Prelude.{ℕ, ◌==◌, Bool, false, List}
 use Rattle.std.specs.Ordering.{nat_cmp}
 use Rattle.std.specs.List.Sorted.{IsStrictlySortedBy}
@@ -9,10 +9,6 @@ use Rattle.session_view.specs.declared.sessions.State.TheVariants.{Fresh, Asked,
 -- each UID is below all behind it
 abbrev pub Ascend : List ℕ → Type 0
 Ascend uids = IsStrictlySortedBy nat_cmp uids
-
--- each session's number is below all behind it
-abbrev pub AreInOrder : List SessionPart → Type 0
-AreInOrder parts = IsStrictlySortedBy (λ a b. nat_cmp a.number b.number) parts
 
 abbrev pub selects_mailbox : ℕ → State → Bool
 selects_mailbox mailbox Fresh = false

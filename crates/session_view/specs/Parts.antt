@@ -1,5 +1,5 @@
 -- The own parts of the sessions, by the sessions' numbers.
-use Rattle.std.specs.Prelude.{ℕ, ◌==◌, Bool, List, Option, Some, None, map, find, if◌then◌else◌}
+use Rattle.std.specs.Prelude.{ℕ, ◌==◌, Bool, List, [], ◌∷◌, Option, Some, None, find, if◌then◌else◌}
 use Rattle.session_view.specs.declared.sessions.SessionPart.{SessionPart}
 use Rattle.session_view.specs.declared.sessions.State.{State}
 use Rattle.session_view.specs.declared.sessions.State.TheVariants.{Fresh}
@@ -17,4 +17,6 @@ state_of number parts = state_in (find (has_number number) parts)
 
 -- the parts with another state of a session
 abbrev pub with_state : ℕ → State → List SessionPart → List SessionPart
-with_state number state parts = map (λ part. if has_number number part then record { number = number; state = state } else part) parts
+with_state number state [] = []
+with_state number state (part ∷ parts) =
+    if has_number number part then record { number = number; state = state } ∷ parts else part ∷ with_state number state parts

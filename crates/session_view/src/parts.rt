@@ -2,7 +2,7 @@
 ghost use Rattle.std.specs.Prelude.{◌≡◌, ◌<◌, ◌++◌, ◌∷◌, [], not, IfOk, OnOk, OnErr, MatchOption, IsTrue, is_some, position, filter};
 ghost use Rattle.std.specs.Option.{option_copied};
 ghost use Rattle.std.specs.List.{find, list_any};
-ghost use Rattle.session_view.specs.Order.{AreInOrder, has_selected, selects_mailbox};
+ghost use Rattle.session_view.specs.Order.{has_selected, selects_mailbox};
 ghost use Rattle.session_view.specs.Parts.{has_number, state_of, with_state};
 
 use crate::sessions::{SessionPart, State};
@@ -12,7 +12,7 @@ use std::marker::Model;
 /// How many sessions there is room for from the start.
 const ROOM: usize = 64;
 
-/// The own parts of the sessions that are open, in the order of their numbers. Contracts see the list of them.
+/// The own parts of the sessions that are open, in the order of their opening. Contracts see the list of them.
 #[derive(Debug, Drop)]
 pub struct Sessions {
     list: Vec<SessionPart>,
@@ -21,13 +21,10 @@ pub struct Sessions {
 impl Model for Sessions {
     ghost use Rattle.std.specs.Prelude.{List};
     ghost use Rattle.session_view.specs.declared.sessions.SessionPart.{SessionPart};
-    ghost use Rattle.session_view.specs.Order.{AreInOrder};
 
     ghost Value = { List SessionPart };
 
     ghost view = { λ sessions. sessions.list.items };
-
-    ghost invariant = { λ sessions. AreInOrder sessions.list.items };
 }
 
 fn place_of(parts: &[SessionPart], number: u32) -> Option<usize>
@@ -43,7 +40,6 @@ fn part_of(parts: &[SessionPart], number: u32) -> Option<&SessionPart>
 }
 
 fn put_state(parts: &mut Vec<SessionPart>, number: u32, state: State)
-    requires { AreInOrder parts.old.items }
     ensures { parts.new.items ≡ with_state number state parts.old.items }
 {
     match place_of(parts.as_slice(), number) {
@@ -92,8 +88,7 @@ impl Sessions {
 
     /// The parts, in order.
     pub fn as_slice(&self) -> &[SessionPart]
-        ensures parts { result.now ≡ self.now }
-        ensures order { AreInOrder self.now }
+        ensures { result.now ≡ self.now }
     {
         self.list.as_slice()
     }
@@ -116,9 +111,8 @@ impl Sessions {
         put_state(&mut self.list, number, state);
     }
 
-    /// Adds a session that isn't authenticated yet, behind the others, whose numbers are lower.
+    /// Adds a session that isn't authenticated yet, behind the others.
     pub fn push(&mut self, number: u32) -> Result<(), AllocError>
-        requires { AreInOrder (self.old ++ record { number = number; state = State.Fresh } ∷ []) }
         ensures ok { OnOk result (self.new ≡ self.old ++ record { number = number; state = State.Fresh } ∷ []) }
         ensures err { OnErr result (self.new ≡ self.old) }
     {

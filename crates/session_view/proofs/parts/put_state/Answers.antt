@@ -13,7 +13,7 @@ returns-in-Some c =
     let test = has_number c.args.number in
     let found : position test items ≡ Some c.in-Some.place = ap (position test) (sym c.as_slice.ensures.value) ∙ sym c.in-Some.ensures in
     let at = position-Some test items c.in-Some.place (record { number = c.args.number; state = c.args.state }) found in
-    let put = put_at c.args.number c.args.state items c.in-Some.place (record { number = c.args.number; state = c.args.state }) c.requires at.0 at.1 at.2 in
+    let put = put_at c.args.number c.args.state items c.in-Some.place (record { number = c.args.number; state = c.args.state }) at.0 at.1 at.2 in
     grind (arith, common_steps, put)
 
 pub returns-in-None : goal.returns-in-None
