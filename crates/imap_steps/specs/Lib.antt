@@ -1,0 +1,6 @@
+pub mod Stepping
+pub mod LoggingIn
+pub mod Selecting
+pub mod Appending
+pub mod Executing
+pub mod Step
