@@ -1,0 +1,25 @@
+-- Mailboxes that are to be selected.
+use Rattle.std.proofs.Common.{◌≡◌, ℕ, Bool, true, false, not, List, Option, Some, None, refl}
+use Rattle.std.specs.Option.{option_map}
+use Rattle.imap_grammar.specs.declared.selecting.Resync.{Resync}
+use Rattle.session_view.specs.declared.sessions.State.{State}
+use Rattle.imap_steps.specs.Stepping.{Shared}
+use Rattle.imap_steps.specs.Selecting.{select}
+use Rattle.imap_steps.specs.Executing.{of_user, select_plainly, unserved}
+use Rattle.imap_exec.specs.Users.{is_plain}
+
+module _ (shared : Shared) (number : ℕ) (tag : List ℕ) (state : State) (name : List ℕ) (examine : Bool) where
+  pub plainly : (condstore : Bool) (resync : Option Resync) → is_plain condstore resync ≡ true
+      → select_plainly shared number tag state name examine condstore resync ≡ of_user shared tag state (λ user. select shared number user tag name (not examine))
+  plainly false None e = refl
+  plainly false (Some resync) e = cc
+  plainly true resync e = cc
+
+  pub not_plainly : (condstore : Bool) (resync : Option Resync) → is_plain condstore resync ≡ false → select_plainly shared number tag state name examine condstore resync ≡ unserved shared tag
+  not_plainly false None e = cc
+  not_plainly false (Some resync) e = refl
+  not_plainly true resync e = refl
+
+pub none_so : {A B : Type 0} (f : A → B) (o : Option A) → None ≡ option_map f o → o ≡ None
+none_so f None e = refl
+none_so f (Some a) e = cc

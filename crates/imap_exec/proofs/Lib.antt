@@ -1,0 +1,11 @@
+pub mod Living
+pub mod Guarding
+pub mod Saying
+pub mod Making
+pub mod Unserved
+pub mod Welcoming
+pub mod Choosing
+pub mod Fitting
+pub mod Placing
+pub mod Summarized
+pub mod Selected

@@ -1,0 +1,50 @@
+-- Commands that aren't served yet.
+use Rattle.std.proofs.Common.{◌≡◌, ℕ, Bool, List, Option, refl}
+use Rattle.date_grammar.specs.declared.parts.Stamp.{Stamp}
+use Rattle.imap_grammar.specs.declared.flags.Flag.{Flag}
+use Rattle.imap_grammar.specs.declared.selecting.Resync.{Resync}
+use Rattle.imap_grammar.specs.declared.commands.Command.{Command}
+use Rattle.imap_grammar.specs.declared.commands.Command.TheVariants.{Capability, Noop, Logout, Check, Close, Expunge, Login, Authenticate, Enable, Create, Delete, Subscribe, Unsubscribe, Rename, List as ListNames, Status, Append, Select, Store, Fetch, Search, Sort, Thread, Copy, UidExpunge}
+use Rattle.session_view.specs.declared.sessions.State.{State}
+use Rattle.imap_steps.specs.Stepping.{Shared}
+use Rattle.imap_steps.specs.Executing.{commanded, unserved}
+
+-- none of those that are
+pub record IsOther (command : Command) : Type 0 where
+  pub capability : command ≡ Capability → ⊥
+  pub noop : command ≡ Noop → ⊥
+  pub logout : command ≡ Logout → ⊥
+  pub check : command ≡ Check → ⊥
+  pub login : (name password : List ℕ) → command ≡ Login name password → ⊥
+  pub authenticate : (mechanism : List ℕ) → command ≡ Authenticate mechanism → ⊥
+  pub create : (name : List ℕ) → command ≡ Create name → ⊥
+  pub select : (name : List ℕ) (examine condstore : Bool) (resync : Option Resync) → command ≡ Select name examine condstore resync → ⊥
+  pub append : (name : List ℕ) (flags : List Flag) (stamp : Option Stamp) (text : List ℕ) → command ≡ Append name flags stamp text → ⊥
+
+module _ (shared : Shared) (number now : ℕ) (state : State) (tag : List ℕ) where
+  pub unserved_else : (command : Command) → IsOther command → commanded shared number state tag command now ≡ unserved shared tag
+  unserved_else Capability other = absurd (other.capability refl)
+  unserved_else Noop other = absurd (other.noop refl)
+  unserved_else Logout other = absurd (other.logout refl)
+  unserved_else Check other = absurd (other.check refl)
+  unserved_else (Login a b) other = absurd (other.login a b refl)
+  unserved_else (Authenticate a) other = absurd (other.authenticate a refl)
+  unserved_else (Create a) other = absurd (other.create a refl)
+  unserved_else (Select a b x y) other = absurd (other.select a b x y refl)
+  unserved_else (Append a b x y) other = absurd (other.append a b x y refl)
+  unserved_else Close other = refl
+  unserved_else Expunge other = refl
+  unserved_else (Enable a) other = refl
+  unserved_else (Delete a) other = refl
+  unserved_else (Subscribe a) other = refl
+  unserved_else (Unsubscribe a) other = refl
+  unserved_else (Rename a b) other = refl
+  unserved_else (ListNames a b x) other = refl
+  unserved_else (Status a b) other = refl
+  unserved_else (Store a b x y z u) other = refl
+  unserved_else (Fetch a b x y z) other = refl
+  unserved_else (Search a b x) other = refl
+  unserved_else (Sort a b x y) other = refl
+  unserved_else (Thread a b x) other = refl
+  unserved_else (Copy a b x) other = refl
+  unserved_else (UidExpunge a) other = refl

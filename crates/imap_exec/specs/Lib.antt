@@ -1,0 +1,5 @@
+pub mod Ready
+pub mod Does
+pub mod Answers
+pub mod Users
+pub mod Selecting

@@ -1,0 +1,27 @@
+//! The commands of IMAP, carried out over a store (RFC 3501 §6).
+//!
+//! Where the store's tables stand for a world of mail, each call is one step of the machine over that world (`imap_steps`): its answer,
+//! its one change, made in the tables and in the files so that a crash at any moment leaves the world before or after it, and the
+//! sessions after it. Over any other tables each call ends too.
+#![tactic(auto)]
+
+mod append;
+mod authenticate;
+mod create;
+mod credentials;
+mod executing;
+mod greeting;
+mod lines;
+mod login;
+mod plain_lines;
+mod select;
+mod simple;
+mod stepping;
+mod telling;
+mod unfit;
+mod users;
+
+pub use executing::execute;
+pub use greeting::{greet, leave};
+pub use plain_lines::plain_line;
+pub use stepping::step;
