@@ -7,7 +7,8 @@ use Rattle.imap_lexer.specs.declared.units.Form.{Form}
 use Rattle.imap_lexer.specs.Units.{Cut, is_prompted, shown, first}
 use Rattle.mail_model.specs.declared.standing.Standing.{Standing}
 use Rattle.mail_model.specs.declared.standing.Standing.TheVariants.{Closing}
-use Rattle.mail_model.specs.Step.{World, Shared, Stepped, greeting, left_by}
+use Rattle.imap_steps.specs.Stepping.{World, Shared, Stepped, left_by}
+use Rattle.imap_steps.specs.Step.{greeting}
 use Rattle.mail_model.specs.Machine.{Machine, Session, Taking, is_open, and_change, behind, adds, becomes, at_once, go_ahead, awaits_more, take_unit, take_byte, take_piece, taking_of, leaves, takes, opens, session_at, hears_piece, take_event, machine}
 use Rattle.mail_model.specs.Pieces.{goes_on}
 use Rattle.mail_model.specs.Between.{link_of, IsAlone, EndsNoUnit}

@@ -5,7 +5,8 @@ use Rattle.std.proofs.lemmas.Bool.Decides.{nat_tests}
 use Rattle.port_model.specs.History.{PortEvent, Opened, Piece, Ended, Lost}
 use Rattle.imap_lexer.specs.Units.{Cut, first}
 use Rattle.mail_model.specs.declared.standing.Standing.TheVariants.{Closing}
-use Rattle.mail_model.specs.Step.{World, Change, Shared, Stepped, applied, changed, after_step, stepped_to, left_by, step, greeting}
+use Rattle.imap_steps.specs.Stepping.{World, Change, Shared, Stepped, applied, changed, after_step, stepped_to, left_by}
+use Rattle.imap_steps.specs.Step.{step, greeting}
 use Rattle.mail_model.specs.Machine.{Machine, Made, Session, Taking, is_open, and_change, behind, adds, awaits_more, after_unit, take_unit, take_byte, take_piece, taking_of, leaves, takes, opens, session_at, hears_piece, at_once, take_event, machine}
 use Rattle.mail_model.specs.Changes.{folded, Told, told, and_told, unit_tells, byte_tells, piece_tells, event_tells, tells, AllWithin, Records}
 use Rattle.mail_model.proofs.Growing.{Grows}

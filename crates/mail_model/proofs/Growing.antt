@@ -2,7 +2,7 @@
 use Rattle.std.proofs.Common.{ℕ, ◌≡◌, ◌==◌, Bool, true, false, List, [], ◌∷◌, ◌++◌, Option, Some, None, cond, refl, sym, append-nil}
 use Rattle.port_model.specs.History.{PortEvent, Opened, Piece, Ended, Lost}
 use Rattle.mail_model.specs.Machine.{Machine, Session, Taking, takes, session_at, take_event, machine, hears_piece, leaves}
-use Rattle.mail_model.specs.Step.{Shared, World}
+use Rattle.imap_steps.specs.Stepping.{Shared, World}
 
 -- one list begins with the other
 abbrev pub Grows : List ℕ → List ℕ → Type 0

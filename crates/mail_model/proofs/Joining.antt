@@ -2,7 +2,8 @@
 use Rattle.std.proofs.Common.{ℕ, ◌≡◌, ◌≢◌, ◌==◌, ◌+◌, Bool, true, false, List, [], ◌∷◌, ◌++◌, Option, Some, None, cond, refl, ap, sym, ◌∙◌, subst, arith, append_assoc, append-nil, length, length-append, map}
 use Rattle.port_model.specs.History.{PortEvent, Opened, Piece, Ended, Lost}
 use Rattle.imap_lexer.specs.Units.{Cut, is_prompted, shown, first}
-use Rattle.mail_model.specs.Step.{World, Shared, Stepped, step}
+use Rattle.imap_steps.specs.Stepping.{World, Shared, Stepped}
+use Rattle.imap_steps.specs.Step.{step}
 use Rattle.mail_model.specs.Machine.{Machine, Made, Session, Taking, is_open, and_change, behind, adds, becomes, go_ahead, after_unit, awaits_more, take_unit, take_byte, take_piece, taking_of, leaves, takes, session_at, hears_piece, take_event, machine}
 use Rattle.mail_model.specs.Between.{link_of, IsAlone, EndsNoUnit, AllElsewhere}
 use Rattle.mail_model.proofs.Units.{Stays, pieces}

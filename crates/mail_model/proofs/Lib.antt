@@ -4,4 +4,3 @@ pub mod Changes
 pub mod HandedOut
 pub mod Between
 pub mod Joining
-mod Examples

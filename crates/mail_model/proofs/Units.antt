@@ -5,7 +5,7 @@ use Rattle.std.proofs.lemmas.Option.{same_Some}
 use Rattle.port_model.specs.History.{PortEvent, Opened, Piece, Ended, Lost}
 use Rattle.imap_lexer.specs.declared.units.Form.{Form}
 use Rattle.imap_lexer.specs.Units.{Cut, first}
-use Rattle.mail_model.specs.Step.{Shared, World, left_by, has_part}
+use Rattle.imap_steps.specs.Stepping.{Shared, World, left_by, has_part}
 use Rattle.mail_model.specs.Machine.{Machine, Session, Taking, is_open, awaits_more, take_unit, take_byte, take_piece, taking_of, hears_piece, leaves, becomes, session_at, takes, take_event, machine}
 use Rattle.mail_model.specs.Pieces.{IsAwaiting, OpenAwait, TakesUnit, goes_on}
 

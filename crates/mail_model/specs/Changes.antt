@@ -2,7 +2,8 @@
 use Rattle.std.specs.Prelude.{ℕ, ◌≡◌, ◌+◌, ◌≤◌, List, [], ◌∷◌, ◌++◌, Some, None, length, map, take, drop, if◌then◌else◌}
 use Rattle.port_model.specs.History.{PortEvent, Opened, Piece, Ended, Lost}
 use Rattle.imap_lexer.specs.Units.{Cut, first}
-use Rattle.mail_model.specs.Step.{World, Change, Stepped, applied, step, greeting}
+use Rattle.imap_steps.specs.Stepping.{World, Change, Stepped, applied}
+use Rattle.imap_steps.specs.Step.{step, greeting}
 use Rattle.mail_model.specs.Machine.{Machine, Made, Taking, is_open, take_byte, taking_of, session_at, at_once, machine}
 
 -- the world after changes, of which the newest is first

@@ -1,5 +1,3 @@
-pub mod Commands
-pub mod Step
 pub mod Machine
 pub mod Pieces
 pub mod Changes

@@ -6,8 +6,8 @@ use Rattle.imap_lexer.specs.declared.units.Form.{Form}
 use Rattle.imap_lexer.specs.Units.{Cut, first, is_prompted, shown}
 use Rattle.mail_model.specs.declared.standing.Standing.{Standing}
 use Rattle.mail_model.specs.declared.standing.Standing.TheVariants.{Open, Closing}
-use Rattle.mail_model.specs.Commands.{crlf}
-use Rattle.mail_model.specs.Step.{World, Change, Shared, Stepped, step, greeting, left_by, after_step}
+use Rattle.imap_steps.specs.Stepping.{World, Change, Shared, Stepped, crlf, left_by, after_step}
+use Rattle.imap_steps.specs.Step.{step, greeting}
 
 -- A session: its number, how its link stands, the form of the unit that it awaits, and the bytes that are no whole
 -- unit yet.

@@ -3,7 +3,7 @@
 ghost use Rattle.std.specs.Prelude.{ℕ, ◌≡◌, ◌+◌, ◌<◌, ◌≤◌, ◌++◌, List, [], length, map};
 ghost use Rattle.port_model.specs.declared.calls.PortCall.{PortCall};
 ghost use Rattle.port_model.specs.History.{PortEvent, sent};
-ghost use Rattle.mail_model.specs.Step.{Shared, Stepped, World, after_step, changed};
+ghost use Rattle.imap_steps.specs.Stepping.{Shared, Stepped, World, after_step, changed};
 ghost use Rattle.mail_model.specs.Machine.{IsHandedOut, Machine, Made, Session, Taking, after_unit, leaves, machine, opens, takes};
 ghost use Rattle.mail_model.specs.Changes.{AllWithin, Records, Told, and_told, folded, tells, told};
 

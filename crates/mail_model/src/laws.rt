@@ -3,7 +3,7 @@
 ghost use Rattle.std.specs.Prelude.{ℕ, ◌≡◌, ◌≢◌, ◌∷◌, ◌++◌, List, None, Some, true, false};
 ghost use Rattle.port_model.specs.History.{PortEvent, Piece};
 ghost use Rattle.imap_lexer.specs.Units.{Cut, first};
-ghost use Rattle.mail_model.specs.Step.{Shared, Stepped, World, has_part};
+ghost use Rattle.imap_steps.specs.Stepping.{Shared, Stepped, World, has_part};
 ghost use Rattle.mail_model.specs.Machine.{Machine, Session, Taking, after_unit, is_open, leaves, machine, opens, session_at, take_piece};
 ghost use Rattle.mail_model.specs.Between.{AllElsewhere, EndsNoUnit, IsAlone, link_of};
 ghost use Rattle.mail_model.specs.Pieces.{IsAwaiting, OpenAwait, TakesUnit, goes_on};

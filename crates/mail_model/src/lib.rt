@@ -1,12 +1,11 @@
 //! What the server is to its users: a machine over plain lists, which takes the events of links one after another.
 //!
 //! There is no code here but the functions whose contracts are laws of the definitions. `specs/Machine.antt` has the
-//! machine, `specs/Step.antt` what one unit does, `specs/Commands.antt` how a unit reads as a command.
+//! machine; what one unit does is told by the definitions of the crate `imap_steps`.
 #![tactic(auto)]
 
 mod change_laws;
 mod laws;
-mod session_part;
 mod standing;
 
 pub use change_laws::{
@@ -16,5 +15,4 @@ pub use laws::{
     answers_only_grow, closing_takes_leave, cuts_whatever_happens_between,
     open_sessions_await_a_unit, units_whatever_the_pieces,
 };
-pub use session_part::SessionPart;
 pub use standing::Standing;

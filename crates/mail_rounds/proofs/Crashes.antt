@@ -11,7 +11,8 @@ use Rattle.port_model.specs.Streams.{moment}
 use Rattle.imap_lexer.specs.declared.units.Shown.{Shown}
 use Rattle.imap_lexer.specs.Units.{Cut, first as first_unit}
 use Rattle.imap_lexer.specs.Lexer.{Awaited}
-use Rattle.mail_model.specs.Step.{World, Change, Shared, Stepped, applied, changed, after_step, step, greeting}
+use Rattle.imap_steps.specs.Stepping.{World, Change, Shared, Stepped, applied, changed, after_step}
+use Rattle.imap_steps.specs.Step.{step, greeting}
 use Rattle.mail_model.specs.Machine.{Machine, Made, Session, Taking, is_open, and_change, behind, awaits_more, leaves, take_unit, take_byte, take_piece, taking_of, at_once, takes, machine, after}
 use Rattle.mail_model.specs.Changes.{folded}
 use Rattle.mail_rounds.specs.declared.link.Link.{Link}

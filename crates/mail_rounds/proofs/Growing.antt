@@ -11,7 +11,7 @@ use Rattle.port_model.specs.Streams.{moment}
 use Rattle.port_model.specs.History.{Piece, Ended, Lost, sent}
 use Rattle.mail_model.specs.declared.standing.Standing.{Standing}
 use Rattle.mail_model.specs.declared.standing.Standing.TheVariants.{Open, Closing}
-use Rattle.mail_model.specs.Step.{Shared}
+use Rattle.imap_steps.specs.Stepping.{Shared}
 use Rattle.mail_model.specs.Machine.{Session, Taking, is_open, leaves, taking_of, take_piece}
 use Rattle.mail_rounds.specs.CoreSeen.{CoreSeen}
 use Rattle.mail_rounds.specs.declared.link.Link.{Link}

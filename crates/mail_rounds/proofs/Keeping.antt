@@ -13,7 +13,8 @@ use Rattle.port_model.specs.History.{PortEvent, Opened, Piece, Ended, Lost, even
 use Rattle.imap_lexer.specs.declared.units.Form.{Form}
 use Rattle.imap_lexer.specs.Units.{first}
 use Rattle.imap_lexer.specs.Lexer.{Awaited}
-use Rattle.mail_model.specs.Step.{World, Shared, Stepped, after_step, greeting, stepped_to}
+use Rattle.imap_steps.specs.Stepping.{World, Shared, Stepped, after_step, stepped_to}
+use Rattle.imap_steps.specs.Step.{greeting}
 use Rattle.mail_model.specs.Machine.{Machine, Session, hears_piece, leaves, adds, Taking, of_session, is_open, session_at, becomes, at_once, takes, opens, take_event, machine, after, standing_after}
 use Rattle.mail_rounds.specs.CoreSeen.{CoreSeen}
 use Rattle.mail_rounds.specs.declared.link.Link.{Link}

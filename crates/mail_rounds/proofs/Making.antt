@@ -5,7 +5,7 @@ use Rattle.std.proofs.lemmas.List.{length-map, take-map}
 use Rattle.port_model.specs.declared.calls.PortCall.{PortCall}
 use Rattle.port_model.specs.Chain.{Chain}
 use Rattle.port_model.specs.History.{events, sent}
-use Rattle.mail_model.specs.Step.{World}
+use Rattle.imap_steps.specs.Stepping.{World}
 use Rattle.mail_model.specs.Machine.{Session, after}
 use Rattle.mail_rounds.specs.declared.link.Link.{Link}
 use Rattle.mail_rounds.specs.CoreSeen.{CoreSeen}

@@ -6,7 +6,8 @@ use Rattle.imap_lexer.specs.declared.units.Fed.{Fed}
 use Rattle.imap_lexer.specs.declared.units.Fed.TheVariants.{More}
 use Rattle.imap_lexer.specs.Lexer.{Awaited, GoesOn}
 use Rattle.mail_model.specs.declared.standing.Standing.{Standing}
-use Rattle.mail_model.specs.Step.{Stepped, step}
+use Rattle.imap_steps.specs.Stepping.{Stepped}
+use Rattle.imap_steps.specs.Step.{step}
 use Rattle.mail_model.specs.Machine.{Session, Taking, is_open, awaits_more, go_ahead, take_byte, take_piece, take_unit, standing_after}
 use Rattle.mail_rounds.specs.CoreSeen.{CoreSeen}
 use Rattle.mail_rounds.specs.declared.link.Link.{Link}

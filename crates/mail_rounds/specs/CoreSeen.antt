@@ -1,7 +1,7 @@
 -- What contracts know of the core of a server, which has all that it does beside its links.
 use Rattle.std.specs.Prelude.{ℕ, ◌≡◌, ◌⊎◌, List, [], ◌∷◌, ◌++◌}
 use Rattle.fault_counts.specs.Rose.{Rose}
-use Rattle.mail_model.specs.Step.{World, Shared}
+use Rattle.imap_steps.specs.Stepping.{World, Shared}
 
 -- The meanings of a core, and their laws.
 pub record CoreSeen (C : Type 0) : Type 1 where

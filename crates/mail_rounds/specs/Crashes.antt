@@ -1,7 +1,7 @@
 -- Which worlds a crash may leave while the machine makes changes. Worlds and changes of a list are the newest first.
 use Rattle.std.specs.Prelude.{ℕ, ◌≡◌, List, [], ◌∷◌, ◌++◌, Option, Some, None, length}
 use Rattle.port_model.specs.declared.calls.PortCall.{PortCall}
-use Rattle.mail_model.specs.Step.{World, Change, Shared, Stepped, applied, after_step}
+use Rattle.imap_steps.specs.Stepping.{World, Change, Shared, Stepped, applied, after_step}
 use Rattle.mail_model.specs.Machine.{Made, Taking, and_change, after}
 use Rattle.mail_model.specs.Changes.{folded}
 use Rattle.mail_rounds.specs.CoreSeen.{CoreSeen}

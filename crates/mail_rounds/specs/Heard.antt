@@ -4,7 +4,7 @@ use Rattle.port_model.specs.declared.calls.PortCall.{PortCall}
 use Rattle.port_model.specs.History.{PortEvent, Opened, Piece, Ended, Lost, events, sent, is_closed}
 use Rattle.imap_lexer.specs.Lexer.{Awaited}
 use Rattle.mail_model.specs.declared.standing.Standing.{Standing}
-use Rattle.mail_model.specs.Step.{Shared, Stepped, after_step}
+use Rattle.imap_steps.specs.Stepping.{Shared, Stepped, after_step}
 use Rattle.mail_model.specs.Machine.{Session, Taking, is_open, standing_after, taking_of, hears_piece, leaves}
 use Rattle.mail_rounds.specs.declared.link.Link.{Link}
 use Rattle.mail_rounds.specs.CoreSeen.{CoreSeen}

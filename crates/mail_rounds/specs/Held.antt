@@ -2,7 +2,7 @@
 use Rattle.std.specs.Prelude.{ℕ, ◌<◌, ◌≤◌, ◌==◌, List, [], ◌∷◌, Option, if◌then◌else◌}
 use Rattle.port_model.specs.declared.calls.PortCall.{PortCall}
 use Rattle.mail_model.specs.Machine.{Made, Session, Taking}
-use Rattle.mail_model.specs.Step.{Shared}
+use Rattle.imap_steps.specs.Stepping.{Shared}
 use Rattle.mail_rounds.specs.declared.link.Link.{Link}
 use Rattle.mail_rounds.specs.declared.server.Server.{Server}
 use Rattle.mail_rounds.specs.Calls.{Due, Grows}

@@ -1,7 +1,7 @@
 -- What a core does of a step.
 use Rattle.std.specs.Prelude.{ℕ, ◌≡◌, ◌++◌, Bool, List}
 use Rattle.imap_lexer.specs.declared.units.Form.{Form}
-use Rattle.mail_model.specs.Step.{Shared, Stepped, stepped_to}
+use Rattle.imap_steps.specs.Stepping.{Shared, Stepped, stepped_to}
 use Rattle.mail_rounds.specs.CoreSeen.{CoreSeen}
 
 -- The core after a step, with answers that were before and after it: it stands for what is shared once the step was made,

@@ -1,7 +1,7 @@
 //! Laws of the worlds that a crash may leave, the contract of a function that does nothing.
 
 ghost use Rattle.std.specs.Prelude.{ℕ, ◌≡◌, ◌∷◌, ◌++◌, List};
-ghost use Rattle.mail_model.specs.Step.{World};
+ghost use Rattle.imap_steps.specs.Stepping.{World};
 ghost use Rattle.mail_model.specs.Machine.{Made};
 ghost use Rattle.mail_model.specs.Changes.{folded};
 ghost use Rattle.mail_rounds.specs.Crashes.{worlds_since};

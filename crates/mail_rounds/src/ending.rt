@@ -1,7 +1,7 @@
 //! A session ends.
 
 ghost use Rattle.std.specs.Prelude.{◌≡◌};
-ghost use Rattle.mail_model.specs.Step.{Shared, Stepped, after_step, stepped_to};
+ghost use Rattle.imap_steps.specs.Stepping.{Shared, Stepped, after_step, stepped_to};
 ghost use Rattle.mail_model.specs.Machine.{leaves, standing_after};
 ghost use Rattle.mail_rounds.specs.CoreSeen.{LeavesFiles};
 ghost use Rattle.mail_rounds.specs.Held.{session_of};

@@ -4,7 +4,8 @@ ghost use Rattle.std.specs.Prelude.{ℕ, ◌≡◌, ◌≤◌, ◌++◌, List, O
 ghost use Rattle.port_model.specs.Ports.{NeverFall};
 ghost use Rattle.port_model.specs.Streams.{moment};
 ghost use Rattle.imap_lexer.specs.Units.{first, is_prompted};
-ghost use Rattle.mail_model.specs.Step.{World, step, Shared};
+ghost use Rattle.imap_steps.specs.Stepping.{World, Shared};
+ghost use Rattle.imap_steps.specs.Step.{step};
 ghost use Rattle.mail_model.specs.Machine.{Taking, go_ahead, take_byte, take_piece};
 ghost use Rattle.mail_rounds.specs.CoreSeen.{SomeRose};
 ghost use Rattle.mail_rounds.specs.Crashes.{MayLeave, TakingCrashes};

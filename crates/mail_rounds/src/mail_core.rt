@@ -2,7 +2,8 @@
 
 ghost use Rattle.std.specs.Prelude.{ℕ, ◌≡◌, OnOk, IfOk, IsErrOf};
 ghost use Rattle.imap_lexer.specs.Lexer.{form_of};
-ghost use Rattle.mail_model.specs.Step.{Shared, step, greeting, left_by};
+ghost use Rattle.imap_steps.specs.Stepping.{Shared, left_by};
+ghost use Rattle.imap_steps.specs.Step.{step, greeting};
 ghost use Rattle.mail_rounds.specs.declared.mail_core.CoreFault.TheVariants.{NoMemory as CoreNoMemory};
 ghost use Rattle.mail_rounds.specs.CoreSeen.{CoreSeen, LeavesFiles, SomeRose};
 ghost use Rattle.mail_rounds.specs.Crashes.{MayLeave};

@@ -4,7 +4,8 @@ ghost use Rattle.std.specs.Prelude.{ℕ, ◌≡◌, ◌≢◌, ◌<◌, ◌≤�
 ghost use Rattle.fault_counts.specs.Rose.{Rose};
 ghost use Rattle.port_model.specs.Ports.{NeverFall};
 ghost use Rattle.port_model.specs.Chain.{Chain};
-ghost use Rattle.mail_model.specs.Step.{World, Shared, greeting};
+ghost use Rattle.imap_steps.specs.Stepping.{World, Shared};
+ghost use Rattle.imap_steps.specs.Step.{greeting};
 ghost use Rattle.mail_model.specs.Machine.{Made, at_once, is_open};
 ghost use Rattle.mail_rounds.specs.declared.rounds.RoundFault.TheVariants.{NoMemory as RoundNoMemory};
 ghost use Rattle.mail_rounds.specs.CoreSeen.{LeavesFiles, SomeRose};

@@ -1,4 +1,4 @@
-use Rattle.mail_model.specs.Step.{stepped_to}
+use Rattle.imap_steps.specs.Stepping.{stepped_to}
 use Rattle.mail_model.proofs.Units.{left_has_none}
 use Rattle.mail_model.proofs.laws.closing_takes_leave.Goals as goal
 
