@@ -14,7 +14,7 @@ use Rattle.port_model.specs.Chain.{Chain}
 use Rattle.port_model.specs.Playing.{playing, answer_to_read}
 use Rattle.mail_model.specs.declared.standing.Standing.{Standing}
 use Rattle.mail_model.specs.declared.standing.Standing.TheVariants.{Open, Closing}
-use Rattle.mail_model.specs.Step.{World}
+use Rattle.imap_steps.specs.Stepping.{World}
 use Rattle.mail_model.specs.Machine.{after}
 use Rattle.mail_rounds.specs.Calls.{Due, Offers, OffersBytes, Closes, ClosesEmpty, Asks, AsksIdle, ReadsOnce, AcceptsBelow, Flushes, Takes, clocked, dues, read_room}
 use Rattle.mail_server.specs.Rounds.{plan_of, left_in, PlaysRounds, PlaysBy}

@@ -6,7 +6,7 @@ use Rattle.port_model.specs.declared.events.Event.TheVariants.{Opens, Piece, End
 use Rattle.port_model.specs.declared.calls.PortCall.{PortCall}
 use Rattle.port_model.specs.History.{PortEvent, events, sent, is_closed}
 use Rattle.port_model.specs.Streams.{moment}
-use Rattle.mail_model.specs.Step.{Shared, World}
+use Rattle.imap_steps.specs.Stepping.{Shared, World}
 use Rattle.mail_model.specs.Machine.{Machine, Session, Taking, machine, after, take_event, takes, session_at, hears_piece, leaves}
 use Rattle.mail_rounds.specs.Calls.{is_lost}
 use Rattle.mail_server.specs.Script.{port_event}

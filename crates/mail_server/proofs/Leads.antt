@@ -4,7 +4,7 @@ use Rattle.port_model.specs.declared.events.Event.{Event}
 use Rattle.port_model.specs.declared.events.Event.TheVariants.{Opens, Piece, Ends, Loses}
 use Rattle.port_model.specs.declared.calls.PortCall.{PortCall}
 use Rattle.port_model.specs.History.{events, is_closed}
-use Rattle.mail_model.specs.Step.{World}
+use Rattle.imap_steps.specs.Stepping.{World}
 use Rattle.mail_model.specs.Machine.{Machine, Session, take_event, after}
 use Rattle.mail_rounds.specs.Calls.{is_lost}
 use Rattle.mail_server.specs.Script.{script_machine, port_event, and_opened}

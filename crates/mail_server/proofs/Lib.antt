@@ -5,6 +5,9 @@ pub mod Told
 pub mod Progress
 pub mod Alone
 pub mod Playing
+pub mod Crashing
+pub mod FromStore
+pub mod FromSteps
 pub mod Transfers
 pub mod Readings
 pub mod WordLists

@@ -1,5 +1,5 @@
 -- A server whose ports play a script makes the rounds that play it.
-use Rattle.std.proofs.Common.{suc, ◌<◌, ◌≢◌, false, List, [], Option, Some, Result, Ok, Err, OnOk, is_err, length, ◌≡◌, refl, sym, ◌∙◌, ap, subst}
+use Rattle.std.proofs.Common.{ℕ, suc, ◌<◌, ◌≤◌, ◌≢◌, false, List, [], ◌∷◌, arith, Option, Some, Result, Ok, Err, OnOk, IsErrAnd, is_err, length, ◌≡◌, refl, sym, ◌∙◌, ap, subst}
 use Rattle.std.proofs.lemmas.Option.{same_Some}
 use Rattle.port_model.specs.declared.calls.PortCall.{PortCall}
 use Rattle.port_model.specs.declared.events.Event.{Event}
@@ -7,20 +7,30 @@ use Rattle.port_model.specs.Playing.{Plan, IsPlayed, playing}
 use Rattle.port_model.specs.Script.{AreEvents}
 use Rattle.port_model.specs.ScriptPorts.{Scripted, told_history, its_plan}
 use Rattle.mail_model.specs.Machine.{Machine}
-use Rattle.mail_model.specs.Step.{World}
-use Rattle.mail_rounds.specs.Calls.{Grows, Flushes, Rounds}
+use Rattle.imap_steps.specs.Stepping.{World}
+use Rattle.mail_rounds.specs.Calls.{Grows, Flushes, Rounds, RoundsSome}
 use Rattle.mail_rounds.specs.CoreSeen.{CoreSeen}
+use Rattle.mail_rounds.specs.Crashes.{MachineCrashes}
 use Rattle.mail_rounds.specs.Held.{Held}
 use Rattle.mail_rounds.specs.Serves.{Serves, Serving, Keeps, Makes}
-use Rattle.mail_server.specs.Script.{script_machine}
-use Rattle.mail_server.specs.Rounds.{plan_of, left_in, reached, PlaysOut}
-use Rattle.mail_server.specs.OnScript.{IsOnScript}
-use Rattle.mail_server.proofs.Progress.{rounds_less, plays_out}
+use Rattle.mail_server.specs.Rounds.{plan_of, left_in, reached}
+use Rattle.mail_server.specs.OnScript.{HasPlayed, IsOnScript, PartCrashes}
+use Rattle.mail_server.proofs.Crashing.{on_partway}
+use Rattle.mail_server.proofs.Progress.{rounds_keep, rounds_less, plays_out}
 
 -- what a clause says of the case that a call is done, where it is
 pub on_ok : {A E P : Type 0} (result : Result A E) → is_err result ≡ false → OnOk result P → P
 on_ok (Ok value) went p = p
 on_ok (Err fault) went p = absurd (cc)
+
+-- a fault that is told on
+pub told_on : {T U E : Type 0} (result : Result U E) (fault other : E) → IsErrAnd result (λ told. told ≡ fault) → (let answer : Result T E = Err fault in answer) ≡ Err other → result ≡ Err other
+told_on (Ok value) fault other is e = absurd is
+told_on (Err told) fault other is e = let same : fault ≡ other = cc in ap Err (is ∙ same)
+
+pub none-left : (left : List Event) → length left ≤ 0 → left ≡ []
+none-left [] none = refl
+none-left (event ∷ later) none = absurd (omega (arith, none))
 
 told : (ports : Scripted) → ports.starved ≡ false → told_history ports ≡ Some ports.calls
 told ports h = rw h refl
@@ -69,11 +79,31 @@ round_goes_on seen first script ports ports' held held' are makes keeps plan h p
           (subst (λ (p : Plan). length (left_in script ports'.calls) < length (playing p ports.calls).left) (sym on.plan) less),
     )
 
+-- Wherever a round ended, a crash leaves the world after some of the changes that it made, which are of the script.
+pub round_crashes : {C : Type 0} (seen : CoreSeen C) (first : World) (script : List Event) (asked : ℕ) (ports ports' : Scripted) (held : Held C) (core : C) → AreEvents script
+    → Makes seen (RoundsSome asked) (told_history ports) held (told_history ports') → Makes seen (MachineCrashes seen held.core core) (told_history ports) held (told_history ports')
+    → its_plan ports' ≡ its_plan ports → ports'.starved ≡ false → IsPlayed ports'.plan ports'.calls → IsOnScript seen first script ports held
+    → PartCrashes seen held.core core first script ports.calls ports'.calls
+round_crashes seen first script asked ports ports' held core are makes crash plan h plays on =
+    let plan' : ports'.plan ≡ plan_of script = same_Some ports'.plan ports.plan plan ∙ on.plan in
+    let lead = rounds_keep first script on.turns asked ports.calls ports'.calls on.had are on.rounds (made seen (RoundsSome asked) first ports ports' held on.told h makes on.serves)
+    (subst (λ (p : Plan). IsPlayed p ports'.calls) plan' plays) in
+    record {
+      crashes = made seen (MachineCrashes seen held.core core) first ports ports' held on.told h crash on.serves;
+      partway = on_partway first script ports'.calls (left_in script ports'.calls) lead.whole;
+    }
+
+-- Calls that the server made on ports that recorded them all leave what a crash leaves.
+pub calls_crash : {C : Type 0} (seen : CoreSeen C) (first : World) (script : List Event) (ports ports' : Scripted) (held : Held C) (core : C)
+    → Makes seen (MachineCrashes seen held.core core) (told_history ports) held (told_history ports') → ports'.starved ≡ false → IsOnScript seen first script ports held
+    → MachineCrashes seen held.core core first ports.calls ports'.calls
+calls_crash seen first script ports ports' held core crash h on = made seen (MachineCrashes seen held.core core) first ports ports' held on.told h crash on.serves
+
 -- Once nothing is left and all is flushed, the history plays the script to its end.
 pub script_ends : {C : Type 0} (seen : CoreSeen C) (first : World) (script : List Event) (ports ports' : Scripted) (held held' : Held C) → AreEvents script → Makes seen Flushes (told_history ports) held (told_history ports')
     → Keeps seen (told_history ports) held (told_history ports') held' → its_plan ports' ≡ its_plan ports → ports'.starved ≡ false → IsPlayed ports'.plan ports'.calls
     → IsOnScript seen first script ports held → (playing ports.plan ports.calls).left ≡ []
-    → PlaysOut first script ports'.calls × (held'.last ≡ (script_machine first script).last)
+    → HasPlayed seen first script ports'.calls held'.last held'.core
 script_ends seen first script ports ports' held held' are makes keeps plan h plays on done =
     let plan' : ports'.plan ≡ plan_of script = same_Some ports'.plan ports.plan plan ∙ on.plan in
     let out = plays_out first script on.turns ports'.calls are (record {
@@ -84,4 +114,9 @@ script_ends seen first script ports ports' held held' are makes keeps plan h pla
       flushes = made seen Flushes first ports ports' held on.told h makes on.serves;
       answered = subst (λ (p : Plan). IsPlayed p ports'.calls) plan' plays;
     }) in
-    (out, (serves-next seen first ports ports' held held' on.told h keeps on.serves).latest ∙ ap (λ (m : Machine). m.last) out.machine)
+    let serves = serves-next seen first ports ports' held held' on.told h keeps on.serves in
+    record {
+      plays = out;
+      last_is = serves.latest ∙ ap (λ (m : Machine). m.last) out.machine;
+      stands = subst (λ (m : Machine). seen.stands held'.core m.shared) out.machine serves.stands;
+    }

@@ -13,7 +13,7 @@ use Rattle.port_model.specs.Script.{opens, is_open as is_opened, AreEvents, AreO
 use Rattle.port_model.specs.Streams.{moment}
 use Rattle.port_model.specs.History.{PortEvent}
 use Rattle.imap_lexer.specs.Units.{Cut, first}
-use Rattle.mail_model.specs.Step.{Shared, World}
+use Rattle.imap_steps.specs.Stepping.{Shared, World}
 use Rattle.mail_model.specs.Machine.{Machine, Session, Taking, machine, take_event, takes, becomes, session_at, of_session, is_open, awaits_more, take_byte, take_piece, take_unit, taking_of, hears_piece, leaves}
 use Rattle.mail_server.specs.Script.{script_machine, port_event, and_opened, port_events, newest_first}
 use Rattle.mail_rounds.specs.Calls.{is_loss}

@@ -17,7 +17,7 @@ use Rattle.port_model.specs.History.{PortEvent, Opened, Piece as CamePiece, Lost
 use Rattle.port_model.specs.Playing.{Playing, IsPlayed, playing, is_of, given, moment_of, after_read, after_send, after_accept, rest_of, answer_to_read, answer_to_send, answer_to_accept, loses}
 use Rattle.mail_model.specs.declared.standing.Standing.{Standing}
 use Rattle.mail_model.specs.declared.standing.Standing.TheVariants.{Open, Closing}
-use Rattle.mail_model.specs.Step.{World}
+use Rattle.imap_steps.specs.Stepping.{World}
 use Rattle.mail_model.specs.Machine.{Machine, machine, after, take_event, is_open, leaves}
 use Rattle.mail_rounds.specs.Calls.{Due, Offers, OffersBytes, Closes, ClosesEmpty, Asks, AsksIdle, ReadsOnce, clocked, AcceptsBelow, read_room, is_lost}
 use Rattle.mail_server.specs.Script.{script_machine, port_event}

@@ -29,7 +29,8 @@ use Rattle.mail_server.specs.declared.status.Status.{Status}
 use Rattle.mail_server.specs.declared.status.Status.TheVariants.{Done, NoMemory, StoreFault, NotAStore, Refused, WriteFault}
 use Rattle.mail_server.specs.Outside.{EndsWriting}
 use Rattle.mail_server.specs.Stores.{HoldsSome}
-use Rattle.mail_server.specs.Users.{AddsEnds, AddsTo, AddsUser, AdduserEnds, IfStands, IfWorld, IsRefusal, SettledFor, is_password, first_line, user_added, user_refused, words_reasons, world_reasons}
+use Rattle.mail_server.specs.WorldFiles.{IfStands, IfWorld, SettledFor}
+use Rattle.mail_server.specs.Users.{AddsEnds, AddsTo, AddsUser, AdduserEnds, IsRefusal, is_password, first_line, user_added, user_refused, words_reasons, world_reasons}
 use Rattle.mail_server.proofs.StoreFiles.{fault-later, read-before, read-after, always-read, counts-both}
 
 -- The reasons of a world
@@ -70,14 +71,14 @@ all-more : (more : World) (worlds : List World) (states : List Stored) → AllBy
 all-more more worlds [] h = tt
 all-more more worlds (state ∷ states) h = (inr h.0, all-more more worlds states h.1)
 
-left-more : {D : Type 0} (told : Told D) (files : Files D) (since : LogMoments) (more : World) (worlds : List World) → Left told files since worlds → Left told files since (more ∷ worlds)
+pub left-more : {D : Type 0} (told : Told D) (files : Files D) (since : LogMoments) (more : World) (worlds : List World) → Left told files since worlds → Left told files since (more ∷ worlds)
 left-more told files since more worlds left = record { states = left.states; stand = all-more more worlds left.states left.stand; joint = left.joint; moments = left.moments }
 
 -- the law of files that were made sure of
 abbrev pub LeaveTheSame : {D : Type 0} → Told D → Type 0
 LeaveTheSame {D} told = (old new : Files D) (since : LogMoments) (states : List Stored) → MakesAllSure told old new → Leaves told old since states → Leaves told new since states
 
-left-sure : {D : Type 0} (told : Told D) (old new : Files D) (since : LogMoments) (worlds : List World) → LeaveTheSame told → MakesAllSure told old new → Left told old since worlds → Left told new since worlds
+pub left-sure : {D : Type 0} (told : Told D) (old new : Files D) (since : LogMoments) (worlds : List World) → LeaveTheSame told → MakesAllSure told old new → Left told old since worlds → Left told new since worlds
 left-sure told old new since worlds law sure left = record {
   states = left.states;
   stand = left.stand;
@@ -229,6 +230,17 @@ adds_err written faults told status fault name password before after old new c w
 abbrev pub LoadedStand : Type 0
 LoadedStand = (files : FileBytes) (worlds : List World) (content : BodyPart → List ℕ) (t : TableRows) → HoldsWorld files worlds → Holds files t (stored_by content t).contents → StandForOne content t worlds
 
+-- Files that hold a world hold tables that stand for it, where they were loaded.
+pub standing : (t : TableRows) → LoadedStand → (bytes : FileBytes) (world : World) → Holds bytes t (stored_by in_row t).contents → HoldsWorld bytes (world ∷ []) → Stands in_row t world
+standing t loaded bytes world holds stands = elim (loaded bytes (world ∷ []) in_row t stands holds) [ inl is ↦ is | inr none ↦ absurd none ]
+
+-- What holds of the world that the tables of a store stand for holds of that of the files from which it was loaded.
+pub if_world : {D : Type 0} (told : Told D) (files : Files D) (old : Store D) (P : World → Type 0) → LoadedStand → MakesAllSure told files old.files → IsSettled told old.files (stored_by in_row old.tables)
+    → IfStands told old P → IfWorld told files P
+if_world told files old P loaded sure settled fact =
+    read-before told files old.files (λ bytes. Holds bytes old.tables (stored_by in_row old.tables).contents) (λ bytes. HoldsSome bytes × ((world : World) → HoldsWorld bytes (world ∷ []) → P world)) sure
+    (λ bytes holds. ((old.tables, ((stored_by in_row old.tables).contents, holds)), λ world stands. fact world (standing old.tables loaded bytes world holds stands))) settled.holds
+
 pub user_added_to_files : {K D : Type 0} (written : K → Option (List ℕ)) (faults : K → ℕ) (told : Told D) (status : Status) (name password : List ℕ) (before after : K) (files : Files D) (old new : Store D)
     → LeaveTheSame told → LoadedStand → MakesAllSure told files old.files → TellsFaults told ⊥ files old.files → IsSettled told old.files (stored_by in_row old.tables)
     → AddsTo written faults told status name password before after old new → AddsUser written faults told status name password before after files new.files
@@ -236,18 +248,11 @@ user_added_to_files {D = D} written faults told status name password before afte
   ends = by-status status adds.ends;
   leaves = read-before told files old.files Held (λ bytes. (world : World) → HoldsWorld bytes (world ∷ []) → (since : LogMoments) (earlier : List World) → Left told files since (world ∷ earlier)
       → Left told new.files since (user_added world name password ∷ world ∷ earlier)) sure
-      (λ bytes holds world stands since earlier left. adds.leaves world (standing bytes world holds stands) since earlier (left-sure told files old.files since (world ∷ earlier) law sure left)) settled.holds;
+      (λ bytes holds world stands since earlier left. adds.leaves world (standing old.tables loaded bytes world holds stands) since earlier (left-sure told files old.files since (world ∷ earlier) law sure left)) settled.holds;
 }
   where
     Held : FileBytes → Type 0
     Held bytes = Holds bytes old.tables (stored_by in_row old.tables).contents
-
-    standing : (bytes : FileBytes) (world : World) → Holds bytes old.tables (stored_by in_row old.tables).contents → HoldsWorld bytes (world ∷ []) → Stands in_row old.tables world
-    standing bytes world holds stands = elim (loaded bytes (world ∷ []) in_row old.tables stands holds) [ inl is ↦ is | inr none ↦ absurd none ]
-
-    if-world : (P : World → Type 0) → IfStands told old P → IfWorld told files P
-    if-world P fact = read-before told files old.files (λ bytes. Holds bytes old.tables (stored_by in_row old.tables).contents) (λ bytes. HoldsSome bytes × ((world : World) → HoldsWorld bytes (world ∷ []) → P world)) sure
-        (λ bytes holds. ((old.tables, ((stored_by in_row old.tables).contents, holds)), λ world stands. fact world (standing bytes world holds stands))) settled.holds
 
     quiet : CountsNoFault told files old.files
     quiet = tells.quiet (λ failed. failed)
@@ -256,9 +261,9 @@ user_added_to_files {D = D} written faults told status name password before afte
     at store same = subst (λ (s : Store D). MakesAllSure told files s.files × CountsNoFault told files s.files) (sym same) (sure, quiet)
 
     by-status : (s : Status) → AddsEnds written faults told s name password before after old new → AdduserEnds written faults told s name password before after files new.files
-    by-status Done ends = (ends.0, if-world _ ends.1, counts-both told files old.files new.files quiet ends.2, ends.3)
-    by-status Refused ends = let same = at new ends.3 in (ends.0, ends.1, if-world _ ends.2, same.0, same.1, ends.4)
-    by-status WriteFault ends = let same = at new ends.3 in (ends.0, ends.1, if-world _ ends.2, same.0, same.1, ends.4)
+    by-status Done ends = (ends.0, if_world told files old _ loaded sure settled ends.1, counts-both told files old.files new.files quiet ends.2, ends.3)
+    by-status Refused ends = let same = at new ends.3 in (ends.0, ends.1, if_world told files old _ loaded sure settled ends.2, same.0, same.1, ends.4)
+    by-status WriteFault ends = let same = at new ends.3 in (ends.0, ends.1, if_world told files old _ loaded sure settled ends.2, same.0, same.1, ends.4)
     by-status NoMemory ends = subst (λ (f : Files D). MakesAllSure told files f × CountsNoFault told files f × (after ≡ before)) (sym ends.0) (sure, quiet, ends.1)
     by-status StoreFault ends = (fault-later told files old.files new.files tells.disks ends.0, ends.1)
     by-status NotAStore ends = absurd ends

@@ -18,7 +18,7 @@ LeavesInputs old new = (new.source ≡ old.source) × (new.clock ≡ old.clock)
 -- Other words are refused, and nothing is done.
 abbrev pub Does : {S K C D : Type 0} → Tells S K C → Told D → Option Asked → Status → Outside S K C → Outside S K C → Files D → Files D → Type 0
 Does tells told None status old new files files' = (status ≡ Usage) × (new ≡ old) × (files' ≡ files)
-Does tells told (Some (OfText task)) status old new files files' = AnswersText tells task status old new files files'
+Does tells told (Some (OfText task)) status old new files files' = AnswersText tells told task status old new files files'
 Does tells told (Some Init) status old new files files' = LeavesInputs old new × MakesStore tells.written tells.write_faults told status old.sink new.sink files files'
 Does tells told (Some Tables) status old new files files' = LeavesInputs old new × ListsTables tells.written tells.write_faults told status old.sink new.sink files files'
 Does tells told (Some (AddUser name password)) status old new files files' =

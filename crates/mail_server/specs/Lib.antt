@@ -1,13 +1,14 @@
-pub mod Bare
-pub mod SessionCommands
 pub mod Script
 pub mod Rounds
 pub mod OnScript
 pub mod Words
 pub mod Commands
 pub mod Outside
+pub mod Stores
+pub mod WorldFiles
 pub mod Run
 pub mod Texts
-pub mod Stores
+pub mod StoreCore
+pub mod Serving
 pub mod Users
 pub mod Does

@@ -5,7 +5,7 @@ use Rattle.port_model.specs.declared.events.Event.TheVariants.{Opens, Piece, End
 use Rattle.port_model.specs.declared.calls.PortCall.{PortCall}
 use Rattle.port_model.specs.History.{events, sent}
 use Rattle.port_model.specs.Playing.{Plan, IsPlayed, playing}
-use Rattle.mail_model.specs.Step.{World}
+use Rattle.imap_steps.specs.Stepping.{World}
 use Rattle.mail_model.specs.Machine.{after}
 use Rattle.mail_rounds.specs.Calls.{Flushes, Takes, is_lost}
 use Rattle.mail_server.specs.Script.{script_machine}

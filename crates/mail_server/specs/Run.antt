@@ -1,13 +1,17 @@
 -- What a run of the server answers, reads and writes.
-use Rattle.std.specs.Prelude.{ℕ, ◌≡◌, ◌≤◌, ◌+◌, nat_lt, Bool, true, false, List, [], ◌++◌, Option, Some, None, Result, Ok, Err, IfSome, IfOk, IsSomeAnd, length, flat_map, codes, decimal}
+use Rattle.std.specs.Prelude.{ℕ, ◌≡◌, ◌≤◌, ◌+◌, nat_lt, Bool, true, false, List, [], ◌++◌, Option, Some, None, Result, Ok, Err, IfSome, IfOk, IsSomeAnd, length, flat_map, codes, decimal, if◌then◌else◌}
 use Rattle.std.specs.List.{range_with_len}
+use Rattle.disk_model.specs.Told.{Told}
+use Rattle.disk_model.specs.declared.disk.Files.{Files}
 use Rattle.port_model.specs.declared.calls.PortCall.{PortCall}
 use Rattle.port_model.specs.declared.events.Event.{Event}
 use Rattle.port_model.specs.History.{sent}
 use Rattle.port_model.specs.Script.{script_events}
 use Rattle.port_model.specs.Streams.{Reads as IsReading}
 use Rattle.port_model.specs.Transcript.{session_lines}
-use Rattle.mail_model.specs.Step.{World}
+use Rattle.imap_steps.specs.Stepping.{World}
+use Rattle.row_store.specs.ThreeFiles.{IfRead, FaultRose, CountsNoFault, MakesAllSure}
+use Rattle.row_store.specs.Holding.{HoldsNone}
 use Rattle.mime_reader.specs.Wrapping.{mail}
 use Rattle.canon_writer.specs.Printing.{print}
 use Rattle.mail_server.specs.declared.answer.Answer.{Answer}
@@ -17,6 +21,7 @@ use Rattle.mail_server.specs.declared.words.Task.{Task}
 use Rattle.mail_server.specs.declared.words.Task.TheVariants.{Script, Canon}
 use Rattle.mail_server.specs.Script.{script_machine}
 use Rattle.mail_server.specs.Rounds.{PlaysOut}
+use Rattle.mail_server.specs.WorldFiles.{IfWorld, SettledFor}
 
 -- the number that the process ends with
 abbrev pub code_of : Status → ℕ
@@ -37,10 +42,6 @@ pub record End : Type 0 where
 
 -- The word `script`
 
--- the world that a script begins with: that of a store without mail
-abbrev pub first_world : World
-first_world = record {}
-
 -- what the sessions from the first to the last were sent, as lines
 abbrev pub transcript_of : ℕ → (ℕ → List ℕ) → List ℕ
 transcript_of last out = flat_map (λ number. session_lines number (out number)) (range_with_len 1 last)
@@ -49,15 +50,33 @@ transcript_of last out = flat_map (λ number. session_lines number (out number))
 abbrev pub bad_line : ℕ → List ℕ
 bad_line number = codes "bad line " ++ decimal number ++ codes "\n"
 
--- A history plays a script to its end, and the lines are those of what was sent in it, one session after another.
-pub record IsPlayedOut (script : List Event) (lines : List ℕ) : Type 0 where
+-- A history plays a script to its end from a world, and the lines are those of what was sent in it, one session after another.
+pub record IsPlayedOut (first : World) (script : List Event) (lines : List ℕ) : Type 0 where
   pub calls : List PortCall
-  pub plays : PlaysOut first_world script calls
-  pub lines_are : lines ≡ transcript_of (script_machine first_world script).last (sent calls)
+  pub plays : PlaysOut first script calls
+  pub lines_are : lines ≡ transcript_of (script_machine first script).last (sent calls)
 
-abbrev pub EventsEnd : Result (List Event) ℕ → End → Type 0
-EventsEnd (Ok events) end = (end.status ≡ Done) × IsPlayedOut events end.lines
-EventsEnd (Err number) end = end ≡ record { status = BadScript; lines = bad_line number }
+-- The sessions of a script were served from the store that the files hold: where that stands for a world, the lines are those of the
+-- rounds that play the script from this world, and the files hold what stands for the world after it, and are at rest.
+abbrev pub ServesScript : {D : Type 0} → Told D → List Event → List ℕ → Files D → Files D → Type 0
+ServesScript told script lines files files' =
+    IfWorld told files (λ first. IsPlayedOut first script lines × SettledFor told files' (script_machine first script).shared.world) × CountsNoFault told files files'
+
+-- how a run ends that serves a script's sessions, and what it leaves of the files
+abbrev pub ServesEnd : {D : Type 0} → Told D → List Event → List ℕ → Files D → Files D → Status → Type 0
+ServesEnd told script lines files files' Done = ServesScript told script lines files files'
+ServesEnd told script lines files files' StoreFault = (lines ≡ []) × FaultRose told files files'
+ServesEnd told script lines files files' NotAStore = (lines ≡ []) × IfRead told files HoldsNone × MakesAllSure told files files' × CountsNoFault told files files'
+ServesEnd told script lines files files' Usage = ⊥
+ServesEnd told script lines files files' NoMemory = ⊥
+ServesEnd told script lines files files' ReadFault = ⊥
+ServesEnd told script lines files files' WriteFault = ⊥
+ServesEnd told script lines files files' Refused = ⊥
+ServesEnd told script lines files files' BadScript = ⊥
+
+abbrev pub EventsEnd : {D : Type 0} → Told D → Result (List Event) ℕ → Files D → Files D → End → Type 0
+EventsEnd told (Ok events) files files' end = ServesEnd told events end.lines files files' end.status
+EventsEnd told (Err number) files files' end = (end ≡ record { status = BadScript; lines = bad_line number }) × (files' ≡ files)
 
 -- The word `canon`
 
@@ -78,14 +97,18 @@ abbrev pub end_of_long : Task → End
 end_of_long Script = record { status = BadScript; lines = codes "bad script: too long\n" }
 end_of_long Canon = record { status = Refused; lines = codes "refused: message too long\n" }
 
-abbrev pub TextEnds : Bool → Task → List ℕ → ℕ → End → Type 0
-TextEnds true task text now end = end ≡ end_of_long task
-TextEnds false Script text now end = EventsEnd (script_events text) end
-TextEnds false Canon text now end = end ≡ record { status = Done; lines = canonical text now }
+-- how the word `canon` ends, and what it writes
+unfoldable pub canon_end : List ℕ → ℕ → End
+canon_end text now = if nat_lt (limit_of Canon) (length text) then end_of_long Canon else record { status = Done; lines = canonical text now }
 
--- What a text has a run write and end with, at a moment of the clock. That it is too long comes first.
-unfoldable pub EndsAs : Task → List ℕ → ℕ → End → Type 0
-EndsAs task text now end = TextEnds (nat_lt (limit_of task) (length text)) task text now end
+abbrev pub TextEnds : {D : Type 0} → Told D → Bool → Task → List ℕ → ℕ → Files D → Files D → End → Type 0
+TextEnds told true task text now files files' end = (end ≡ end_of_long task) × (files' ≡ files)
+TextEnds told false Script text now files files' end = EventsEnd told (script_events text) files files' end
+TextEnds told false Canon text now files files' end = (end ≡ record { status = Done; lines = canonical text now }) × (files' ≡ files)
+
+-- What a text has a run write and end with, at a moment of the clock, and leave of the files. That it is too long comes first.
+unfoldable pub EndsAs : {D : Type 0} → Told D → Task → List ℕ → ℕ → Files D → Files D → End → Type 0
+EndsAs told task text now files files' end = TextEnds told (nat_lt (limit_of task) (length text)) task text now files files' end
 
 -- The moment that a run takes of its clock, where its readings tell it. A script has moments of its own, and leaves the clock alone.
 abbrev pub TakesMoment : {C : Type 0} → (C → Option (List ℕ)) → Task → ℕ → C → C → Type 0
@@ -97,9 +120,9 @@ abbrev pub end_of : Answer → End
 end_of answer = record { status = answer.status; lines = answer.lines.items }
 
 -- What a text has a run write at the moment that it takes, unless memory is refused.
-abbrev pub AnswersAt : {C E : Type 0} → (C → Option (List ℕ)) → Task → List ℕ → Result Answer E → C → C → Type 0
-AnswersAt readings task text result old new =
-    (now : ℕ) × TakesMoment readings task now old new × IfOk result (λ answer. EndsAs task text now (end_of answer))
+abbrev pub AnswersAt : {C D E : Type 0} → (C → Option (List ℕ)) → Told D → Task → List ℕ → Result Answer E → C → C → Files D → Files D → Type 0
+AnswersAt readings told task text result old new files files' =
+    (now : ℕ) × TakesMoment readings task now old new × IfOk result (λ answer. EndsAs told task text now files files' (end_of answer))
 
 -- These bytes were read from the front of what was left, where the source tells it, which it does afterwards as before.
 abbrev pub HasRead : List ℕ → Option (List ℕ) → Option (List ℕ) → Type 0

@@ -5,7 +5,7 @@ use Rattle.port_model.specs.declared.events.Event.TheVariants.{Opens, Piece, End
 use Rattle.port_model.specs.Streams.{moment}
 use Rattle.port_model.specs.History.{PortEvent, Opened, Piece as CamePiece, Ended, Lost}
 use Rattle.mail_model.specs.Machine.{Machine, machine}
-use Rattle.mail_model.specs.Step.{World}
+use Rattle.imap_steps.specs.Stepping.{World}
 
 -- an event of a script as its link has it, where this is the number of the next session that opens
 abbrev pub port_event : ℕ → Event → PortEvent

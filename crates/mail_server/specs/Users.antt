@@ -5,20 +5,18 @@ use Rattle.disk_model.specs.Told.{Told}
 use Rattle.disk_model.specs.declared.disk.Files.{Files}
 use Rattle.row_tables.specs.Names.{user_named}
 use Rattle.row_store.specs.ThreeFiles.{IfRead, FaultRose, CountsNoFault, LogMoments, MakesAllSure}
-use Rattle.row_store.specs.Holding.{Stored, HoldsNone}
-use Rattle.row_store.specs.Crashes.{IsSettled}
-use Rattle.row_store.specs.Kept.{Store, IfContents}
+use Rattle.row_store.specs.Holding.{HoldsNone}
+use Rattle.row_store.specs.Kept.{Store}
 use Rattle.mail_world.specs.Names.{is_user_name}
 use Rattle.mail_world.specs.Limits.{most_users}
 use Rattle.mail_world.specs.Worlds.{World}
 use Rattle.mail_world.specs.Looking.{verifier_of}
 use Rattle.mail_world.specs.Users.{with_user}
-use Rattle.mail_stands.specs.Stands.{Stands}
-use Rattle.mailbox_core.specs.Left.{HoldsWorld, Left, StandsFor}
+use Rattle.mailbox_core.specs.Left.{HoldsWorld, Left}
 use Rattle.mail_server.specs.declared.status.Status.{Status}
 use Rattle.mail_server.specs.declared.status.Status.TheVariants.{Done, Usage, NoMemory, ReadFault, WriteFault, StoreFault, NotAStore, Refused, BadScript}
 use Rattle.mail_server.specs.Outside.{WritesAll, StopsWriting}
-use Rattle.mail_server.specs.Stores.{HoldsSome}
+use Rattle.mail_server.specs.WorldFiles.{IfWorld, SettledFor, IfStands}
 
 -- a byte of a password: printed ASCII, but for the space
 abbrev pub is_password_byte : ℕ → Bool
@@ -58,16 +56,6 @@ abbrev pub IsRefusal : List ℕ → List ℕ → List ℕ → Type 0
 IsRefusal name password line = (first_line (words_reasons name password) ≡ Some line)
     ⊎ ((first_line (words_reasons name password) ≡ None) × ((line ≡ codes "refused: user exists\n") ⊎ (line ≡ codes "refused: full\n")))
 
--- The files as read hold a store; where it stands for a world, this holds of the world.
-abbrev pub IfWorld : {D : Type 0} → Told D → Files D → (World → Type 0) → Type 0
-IfWorld told files P = IfRead told files (λ bytes. HoldsSome bytes × ((world : World) → HoldsWorld bytes (world ∷ []) → P world))
-
--- The files are at rest, so that a crash leaves them as they are, and hold what stands for this world.
-pub record SettledFor {D : Type 0} (told : Told D) (files : Files D) (world : World) : Type 0 where
-  pub state : Stored
-  pub settled : IsSettled told files state
-  pub stands : StandsFor state world
-
 -- How the word ends: each status that it can end with, with its cause and what it leaves of the sink and the files. The sink is
 -- called only to refuse.
 abbrev pub AdduserEnds : {K D : Type 0} → (K → Option (List ℕ)) → (K → ℕ) → Told D → Status → List ℕ → List ℕ → K → K → Files D → Files D → Type 0
@@ -91,10 +79,6 @@ pub record AddsUser {K D : Type 0} (written : K → Option (List ℕ)) (faults :
   -- the joint images of now, and those of each moment since.
   pub leaves : IfRead told files (λ bytes. (world : World) → HoldsWorld bytes (world ∷ []) → (since : LogMoments) (earlier : List World) → Left told files since (world ∷ earlier)
       → Left told files' since (user_added world name password ∷ world ∷ earlier))
-
--- What is done to a store that was loaded, whose tables have this content.
-abbrev pub IfStands : {D : Type 0} → Told D → Store D → (World → Type 0) → Type 0
-IfStands told store P = IfContents told store (λ content. (world : World) → Stands content store.tables world → P world)
 
 -- How a user is added to a store that was loaded, by the status that the run ends with.
 abbrev pub AddsEnds : {K D : Type 0} → (K → Option (List ℕ)) → (K → ℕ) → Told D → Status → List ℕ → List ℕ → K → K → Store D → Store D → Type 0

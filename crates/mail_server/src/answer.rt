@@ -1,6 +1,6 @@
 //! What a run writes.
 
-ghost use Rattle.std.specs.Prelude.{◌≡◌, IfOk};
+ghost use Rattle.std.specs.Prelude.{◌≡◌, [], IfOk};
 ghost use Rattle.mail_server.specs.Outside.{EndsWriting};
 ghost use Rattle.mail_server.specs.Run.{end_of};
 
@@ -24,6 +24,16 @@ pub(crate) fn one_line(alloc: Global, status: Status, line: &[u8]) -> Result<Ans
         status,
         lines: line.to_vec(alloc)?,
     })
+}
+
+/// The answer of no line.
+pub(crate) fn no_lines(alloc: Global, status: Status) -> Answer
+    ensures { end_of result ≡ record { status = status; lines = [] } }
+{
+    Answer {
+        status,
+        lines: Vec::new(alloc),
+    }
 }
 
 /// Writes lines, and answers how the run ends: as is said, unless a write fails.

@@ -4,7 +4,7 @@ ghost use Rattle.std.specs.Prelude.{ℕ, ◌≡◌, ◌≤◌, List, length};
 ghost use Rattle.port_model.specs.declared.calls.PortCall.{PortCall};
 ghost use Rattle.port_model.specs.declared.events.Event.{Event};
 ghost use Rattle.port_model.specs.Script.{AreEvents};
-ghost use Rattle.mail_model.specs.Step.{World};
+ghost use Rattle.imap_steps.specs.Stepping.{World};
 ghost use Rattle.mail_server.specs.Rounds.{PlaysBy, PlaysOut};
 
 /// Laws of the rounds that play a script: one history at most is theirs, they are no more than the script has events, and

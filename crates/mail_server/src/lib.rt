@@ -3,22 +3,20 @@
 #![tactic(auto)]
 
 mod answer;
-mod bare;
 mod canonical;
-mod commands;
 mod laws;
-mod lines;
+mod printing;
 mod program;
 mod script;
 mod scripted;
+mod serving;
 mod status;
+mod store_core;
 mod stores;
 mod streams;
 mod users;
 mod words;
 
-pub use bare::BareCore;
 pub use laws::one_history_plays_a_script;
 pub use mail_rounds::{RoundFault, Server};
 pub use program::run;
-pub use script::load;

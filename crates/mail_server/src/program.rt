@@ -1,11 +1,12 @@
 //! The words of the program, and what each does.
 
-ghost use Rattle.std.specs.Prelude.{◌≡◌, map, string_bytes, MatchResult};
+ghost use Rattle.std.specs.Prelude.{◌≡◌, map, string_bytes, MatchResult, OnOk};
 ghost use Rattle.mail_server.specs.declared.status.Status.TheVariants.{Done, NoMemory};
 ghost use Rattle.mail_server.specs.Does.{EndsRun};
 ghost use Rattle.mail_server.specs.Outside.{EndsWriting, outside, tells_of};
 ghost use Rattle.mail_server.specs.Run.{AnswersAt};
-ghost use Rattle.mail_server.specs.Texts.{AnswersText};
+ghost use Rattle.mail_server.specs.declared.words.Task.TheVariants.{Canon};
+ghost use Rattle.mail_server.specs.Texts.{AnswersText, LeavesText};
 ghost use Rattle.mail_server.specs.Words.{asked_by};
 
 use crate::answer::{Answer, end_with};
@@ -22,9 +23,9 @@ use std::alloc::{AllocError, Global};
 
 /// Runs a command of the program, and answers the status that the process ends with, and the files.
 ///
-/// `script` reads a script from `source`, loads the server, runs its rounds over the events of the script, and writes what
-/// each session was sent to `sink`, as lines in the form of `print_session`. A script with a bad line, or with more than
-/// 67,108,864 bytes, is answered with one line that says so, and nothing is done.
+/// `script` reads a script from `source`, loads the store that the files hold, serves the sessions of the script from it in
+/// rounds over its events, and writes what each session was sent to `sink`, as lines in the form of `print_session`. A script
+/// with a bad line, or with more than 67,108,864 bytes, is answered with one line that says so, and nothing is done.
 ///
 /// `canon` reads a message from `source`, takes one reading of the clock, and writes the canonical text of the message. It
 /// needs no store, and the message goes through no rows. Bytes that are no message are written as an attachment of a message
@@ -84,7 +85,7 @@ pub fn run<S: Source, K: Sink, D: Disk, P: Ports, C: Clock>(
 }
 
 /// Does what the text of the source asks for.
-fn run_task<S: Source, K: Sink, D, C: Clock>(
+fn run_task<S: Source, K: Sink, D: Disk, C: Clock>(
     alloc: Global,
     task: Task,
     source: &mut S,
@@ -92,7 +93,7 @@ fn run_task<S: Source, K: Sink, D, C: Clock>(
     files: Files<D>,
     clock: &mut C,
 ) -> (Status, Files<D>)
-    ensures { AnswersText (tells_of S.left S.faults K.written K.faults C.readings) task result.0
+    ensures { AnswersText (tells_of S.left S.faults K.written K.faults C.readings) D.told task result.0
         (outside source.old sink.old clock.old) (outside source.new sink.new clock.new) files result.1 }
 {
     match read_all(alloc, source, task.limit()) {
@@ -106,15 +107,16 @@ fn run_task<S: Source, K: Sink, D, C: Clock>(
 }
 
 /// What a text has a run write.
-fn answer_text<D, C: Clock>(
+fn answer_text<D: Disk, C: Clock>(
     alloc: Global,
     task: Task,
     text: &[u8],
     files: Files<D>,
     clock: &mut C,
 ) -> (Result<Answer, AllocError>, Files<D>)
-    ensures answers { AnswersAt C.readings task text.now result.0 clock.old clock.new }
-    ensures files { result.1 ≡ files }
+    ensures answers { AnswersAt C.readings D.told task text.now result.0 clock.old clock.new files result.1 }
+    ensures leaves { OnOk result.0 (LeavesText D.told task text.now files result.1) }
+    ensures canon { task ≡ Canon → result.1 ≡ files }
 {
     match task {
         Task::Script => answer_script(alloc, text, files),

@@ -1,19 +1,18 @@
 //! A script is played to its end.
 
-ghost use Rattle.std.specs.Prelude.{ℕ, ◌≡◌, false, [], OnOk, IfOk};
+ghost use Rattle.std.specs.Prelude.{ℕ, ◌≡◌, ◌≢◌, ◌<◌, ◌≤◌, false, [], List, OnOk, OnErr, IfOk, IsErrOf, length};
 ghost use Rattle.port_model.specs.Playing.{playing};
 ghost use Rattle.port_model.specs.Script.{AreEvents};
+ghost use Rattle.imap_steps.specs.Stepping.{World};
+ghost use Rattle.mail_model.specs.Machine.{after};
+ghost use Rattle.mail_rounds.specs.CoreSeen.{SomeRose};
 ghost use Rattle.mail_rounds.specs.Held.{held};
-ghost use Rattle.mail_server.specs.OnScript.{IsOnScript};
-ghost use Rattle.mail_server.specs.Rounds.{PlaysOut};
-ghost use Rattle.mail_server.specs.Run.{first_world};
-ghost use Rattle.mail_server.specs.Script.{script_machine};
-ghost use Rattle.mail_model.specs.Step.{World};
 ghost use Rattle.mail_rounds.specs.Serves.{IsGoing, Serves};
-ghost use Rattle.mail_server.specs.Bare.{bare_seen};
+ghost use Rattle.mail_server.specs.declared.script.PlayFault.TheVariants.{NoMemory as PlayNoMemory};
+ghost use Rattle.mail_server.specs.OnScript.{HasPlayed, IsOnScript, LeavesMade, LeavesScript, PartCrashes};
 
-use crate::bare::BareCore;
-use mail_rounds::Server;
+use mail_model::changes_stand_by_their_answers;
+use mail_rounds::{Core, RoundFault, Server, Unserved, worlds_reach_back};
 use port_model::{Event, ScriptPorts};
 use std::alloc::{AllocError, Global};
 
@@ -26,48 +25,78 @@ pub(crate) struct Played {
     pub(crate) last: u32,
 }
 
-/// A server without mail, which has no link yet.
-pub fn load(alloc: Global) -> Result<Server<BareCore>, AllocError>
-    ensures serves { IfOk result (λ server. (first : World) → Serves bare_seen first [] (held server)) }
-    ensures going { IfOk result (λ server. IsGoing bare_seen server) }
-{
-    let core = BareCore::new(alloc)?;
-    match Server::new(alloc, core) {
-        Ok(server) => Ok(server),
-        Err(_unserved) => Err(AllocError),
+/// Why a script was not played to its end.
+#[derive(Clone, Copy, Debug, PartialEq, Eq)]
+pub(crate) enum PlayFault {
+    /// A call on a file of the store failed.
+    StoreFault,
+    /// Memory was refused, be it for the record of a call on the ports alone.
+    NoMemory,
+}
+
+impl From<AllocError> for PlayFault {
+    ghost from_gives = { λ _ fault. fault ≡ PlayNoMemory };
+
+    fn from(_error: AllocError) -> PlayFault {
+        PlayFault::NoMemory
     }
 }
 
-/// Loads the server and runs its rounds over the events of a script until none is left, and then sends what is still
-/// to be sent.
-pub(crate) fn play(alloc: Global, events: Vec<Event>) -> Result<Played, AllocError>
+/// Has a core serve the sessions of a script until none of its events is left, and then sends what is still to be sent. The
+/// core is handed back.
+pub(crate) fn play<C: Core>(
+    alloc: Global,
+    core: C,
+    events: Vec<Event>,
+) -> (Result<Played, PlayFault>, C)
+    requires ready { C.seen.ready core }
     requires kept { AreEvents events.items }
-    ensures recorded { IfOk result (λ played. played.ports.starved ≡ false) }
-    ensures plays { IfOk result (λ played. PlaysOut first_world events.items played.ports.calls) }
-    ensures last { IfOk result (λ played. played.last ≡ (script_machine first_world events.items).last) }
+    ensures recorded { IfOk result.0 (λ played. played.ports.starved ≡ false) }
+    ensures plays { IfOk result.0 (λ played. (first : World) → C.seen.stands core (record { world = first; parts = [] })
+        → HasPlayed C.seen first events.items played.ports.calls played.last result.1) }
+
+    // With whatever answer but for want of memory, a crash leaves the world after some of the script's changes.
+    ensures crash { (IsErrOf result.0 PlayNoMemory → ⊥) → (first : World) → C.seen.stands core (record { world = first; parts = [] }) → LeavesScript C.seen core result.1 first events.items }
+    ensures failed { IsErrOf result.0 PlayFault.StoreFault → SomeRose (C.seen.faults core) (C.seen.faults result.1) }
+    ensures stored { OnOk result.0 (C.seen.faults result.1 ≡ C.seen.faults core) }
 {
-    let mut server = load(alloc)?;
-    play_on(alloc, &mut server, events)
+    match Server::new(alloc, core) {
+        Ok(server) => {
+            let mut server = server;
+            let played = play_on(alloc, &mut server, events);
+            (played, server.into_core())
+        }
+        Err(unserved) => {
+            let Unserved { core } = unserved;
+            (Err(PlayFault::NoMemory), core)
+        }
+    }
 }
 
 /// Plays a script on a server that has no link yet.
-fn play_on(
+fn play_on<C: Core>(
     alloc: Global,
-    server: &mut Server<BareCore>,
+    server: &mut Server<C>,
     events: Vec<Event>,
-) -> Result<Played, AllocError>
-    requires fresh { Serves bare_seen first_world [] (held server.old) }
-    requires going { IsGoing bare_seen server.old }
+) -> Result<Played, PlayFault>
+    requires going { IsGoing C.seen server.old }
     requires kept { AreEvents events.items }
     ensures recorded { IfOk result (λ played. played.ports.starved ≡ false) }
-    ensures plays { IfOk result (λ played. PlaysOut first_world events.items played.ports.calls) }
-    ensures last { IfOk result (λ played. played.last ≡ (script_machine first_world events.items).last) }
+    ensures plays { IfOk result (λ played. (first : World) → Serves C.seen first [] (held server.old)
+        → HasPlayed C.seen first events.items played.ports.calls played.last (held server.new).core) }
+    ensures crash { (IsErrOf result PlayNoMemory → ⊥) → (first : World) → Serves C.seen first [] (held server.old)
+        → LeavesScript C.seen (held server.old).core (held server.new).core first events.items }
+    ensures failed { IsErrOf result PlayFault.StoreFault → SomeRose (C.seen.faults (held server.old).core) (C.seen.faults (held server.new).core) }
+    ensures stored { OnOk result (C.seen.faults (held server.new).core ≡ C.seen.faults (held server.old).core) }
 {
+    worlds_reach_back();
+    changes_stand_by_their_answers();
+    let most = events.len();
     let mut ports = ScriptPorts::new(alloc, events, Vec::new(alloc))?;
-    run_rounds(server, &mut ports)?;
+    run_rounds(server, &mut ports, most)?;
     server.flush(&mut ports);
     if ports.starved() {
-        return Err(AllocError);
+        return Err(PlayFault::NoMemory);
     }
     Ok(Played {
         ports,
@@ -75,19 +104,60 @@ fn play_on(
     })
 }
 
-/// Runs rounds until no event is left.
-fn run_rounds(server: &mut Server<BareCore>, ports: &mut ScriptPorts) -> Result<(), AllocError>
-    requires going { IsGoing bare_seen server.old }
+/// Runs rounds until no event is left, and no more of them than this. A server that holds what the machine has needs no more
+/// than there are events; over a store that stands for no world the bound alone ends them.
+fn run_rounds<C: Core>(
+    server: &mut Server<C>,
+    ports: &mut ScriptPorts,
+    most: usize,
+) -> Result<(), PlayFault>
+    requires going { IsGoing C.seen server.old }
     requires kept { AreEvents ports.old.plan.events }
-    requires on_script { IsOnScript bare_seen first_world ports.old.plan.events ports.old (held server.old) }
-    ensures on_script { OnOk result (IsOnScript bare_seen first_world ports.old.plan.events ports.new (held server.new)) }
-    ensures done { OnOk result ((playing ports.new.plan ports.new.calls).left ≡ []) }
-    ensures going { OnOk result (IsGoing bare_seen server.new) }
+    requires none { ports.old.calls ≡ [] }
+    requires within { length ports.old.plan.events ≤ most }
+    ensures on_script { OnOk result ((first : World) → IsOnScript C.seen first ports.old.plan.events ports.old (held server.old)
+        → IsOnScript C.seen first ports.old.plan.events ports.new (held server.new)) }
+    ensures done { OnOk result ((first : World) → IsOnScript C.seen first ports.old.plan.events ports.old (held server.old)
+        → (playing ports.new.plan ports.new.calls).left ≡ []) }
+    ensures going { OnOk result (IsGoing C.seen server.new) }
+    ensures made { OnOk result ((first : World) → IsOnScript C.seen first ports.old.plan.events ports.old (held server.old)
+        → LeavesMade C.seen (held server.old).core (held server.new).core first (after first ports.new.calls).changes) }
+    ensures crash { OnErr result ((IsErrOf result PlayNoMemory → ⊥) → (first : World) → IsOnScript C.seen first ports.old.plan.events ports.old (held server.old)
+        → LeavesScript C.seen (held server.old).core (held server.new).core first ports.old.plan.events) }
+    ensures failed { IsErrOf result PlayFault.StoreFault → SomeRose (C.seen.faults (held server.old).core) (C.seen.faults (held server.new).core) }
+    ensures stored { OnOk result (C.seen.faults (held server.new).core ≡ C.seen.faults (held server.old).core) }
 {
-    'rounds: while !ports.done() {
-        if server.round(ports).is_err() || ports.starved() {
-            return Err(AllocError);
-        }
+    worlds_reach_back();
+    changes_stand_by_their_answers();
+    let mut turns = 0;
+    'rounds: while turns < most && !ports.done() {
+        run_round(server, ports)?;
+        turns += 1;
     }
     Ok(())
+}
+
+/// Runs a round.
+fn run_round<C: Core>(server: &mut Server<C>, ports: &mut ScriptPorts) -> Result<(), PlayFault>
+    requires going { IsGoing C.seen server.old }
+    requires kept { AreEvents ports.old.plan.events }
+    ensures on_script { OnOk result ((first : World) → IsOnScript C.seen first ports.old.plan.events ports.old (held server.old) → (playing ports.old.plan ports.old.calls).left ≢ []
+        → IsOnScript C.seen first ports.old.plan.events ports.new (held server.new)
+        × (length (playing ports.new.plan ports.new.calls).left < length (playing ports.old.plan ports.old.calls).left)) }
+    ensures plan { ports.new.plan ≡ ports.old.plan }
+    ensures going { OnOk result (IsGoing C.seen server.new) }
+    ensures crash { (IsErrOf result PlayNoMemory → ⊥) → (first : World) → IsOnScript C.seen first ports.old.plan.events ports.old (held server.old)
+        → PartCrashes C.seen (held server.old).core (held server.new).core first ports.old.plan.events ports.old.calls ports.new.calls }
+    ensures failed { IsErrOf result PlayFault.StoreFault → SomeRose (C.seen.faults (held server.old).core) (C.seen.faults (held server.new).core) }
+    ensures stored { OnOk result (C.seen.faults (held server.new).core ≡ C.seen.faults (held server.old).core) }
+{
+    let outcome = server.round(ports);
+    if ports.starved() {
+        return Err(PlayFault::NoMemory);
+    }
+    match outcome {
+        Ok(()) => Ok(()),
+        Err(RoundFault::StoreFault) => Err(PlayFault::StoreFault),
+        Err(RoundFault::ListenFault | RoundFault::NoMemory) => Err(PlayFault::NoMemory),
+    }
 }

@@ -1,13 +1,8 @@
 //! Runs of the program over sources and sinks in memory.
 
-ghost use Rattle.port_model.specs.Script.{AreEvents};
-ghost use Rattle.mail_rounds.specs.Serves.{IsGoing};
-ghost use Rattle.mail_server.specs.Bare.{bare_seen};
-
 use disk_model::{Files, MemoryDisk};
-use mail_rounds::Core;
-use mail_server::{BareCore, Server, load, run};
-use port_model::{Event, FixedClock, Kind, MemorySink, MemorySource, ScriptPorts, parse_script};
+use mail_server::run;
+use port_model::{FixedClock, MemorySink, MemorySource, ScriptPorts};
 use std::alloc::{AllocError, Global};
 use std::test::Fail;
 
@@ -17,7 +12,7 @@ fn no_disk(alloc: Global) -> Result<MemoryDisk, AllocError> {
     MemoryDisk::new(alloc, Vec::new(alloc), Vec::new(alloc))
 }
 
-/// Runs words over a script, where the calls of these numbers fail, and answers the status and what was written.
+/// Runs words over a script and an empty store, where the calls of these numbers fail, and answers the status and what was written.
 fn ran(
     alloc: Global,
     words: &str,
@@ -31,11 +26,7 @@ fn ran(
     }
     let mut source = MemorySource::new(alloc, script.to_vec(alloc)?, read_fails.to_vec(alloc)?)?;
     let mut sink = MemorySink::new(alloc, write_fails.to_vec(alloc)?)?;
-    let files = Files {
-        log0: no_disk(alloc)?,
-        log1: no_disk(alloc)?,
-        bodies: no_disk(alloc)?,
-    };
+    let files = files_of(alloc, EMPTY_STORE, &[])?;
     let mut ports = ScriptPorts::new(alloc, Vec::new(alloc), Vec::new(alloc))?;
     let mut clock = FixedClock::new(0);
     let (status, _files) = run(
@@ -153,7 +144,7 @@ fn sessions_take_turns_byte_by_byte(rt: HostRuntime) -> Result<(), Fail> {
     }
     let whole = b"open imap\nopen imap\nsend 1 0 a NOOP\\r\\n\nsend 2 0 b CAPABILITY\\r\\n";
     let lines =
-        b"1: * OK IMAP4rev1 ready\\r\\n\n1: a OK NOOP completed\\r\\n\n2: * OK IMAP4rev1 ready\\r\\n\n2: * CAPABILITY IMAP4rev1\\r\\n\n2: b OK CAPABILITY completed\\r\\n\n";
+        b"1: * OK IMAP4rev1 ready\\r\\n\n1: a OK NOOP completed\\r\\n\n2: * OK IMAP4rev1 ready\\r\\n\n2: * CAPABILITY IMAP4rev1 AUTH=PLAIN\\r\\n\n2: b OK CAPABILITY completed\\r\\n\n";
     for text in [script.as_slice(), whole] {
         let (status, written) = ran(alloc, "script", text, &[], &[])?;
         assert_eq!(rt; status, 0);
@@ -305,21 +296,6 @@ fn units_are_answered_as_they_read(rt: HostRuntime) -> Result<(), Fail> {
     Ok(())
 }
 
-#[test]
-fn each_kind_is_greeted(rt: HostRuntime) -> Result<(), Fail> {
-    let mut core = BareCore::new(rt.alloc())?;
-    let mut answer = Vec::new(rt.alloc());
-    let greeted = core.greet(1, Kind::Imap, 0, &mut answer);
-    assert!(rt; greeted.is_ok_and(|outcome| !outcome.closes));
-    let greeted = core.greet(2, Kind::Lmtp, 1, &mut answer);
-    assert!(rt; greeted.is_ok_and(|outcome| outcome.closes));
-    assert_eq!(rt;
-        answer.as_slice(),
-        b"* OK IMAP4rev1 ready\r\n421 4.3.2 LMTP is not served\r\n".as_slice()
-    );
-    Ok(())
-}
-
 /// A script of one line of so many letters, and a command behind it.
 fn long_line(alloc: Global, letters: usize) -> Result<Vec<u8>, AllocError> {
     let mut script = b"open imap\nsend 1 0 ".to_vec(alloc)?;
@@ -344,49 +320,6 @@ fn lines_have_8192_bytes_at_most(rt: HostRuntime) -> Result<(), Fail> {
     let closed = b"1: * OK IMAP4rev1 ready\\r\\n\n1: * BYE line too long\\r\\n\n";
     assert_eq!(rt; status, 0);
     assert_eq!(rt; written.as_slice(), closed.as_slice());
-    Ok(())
-}
-
-/// Makes so many rounds.
-fn rounds(server: &mut Server<BareCore>, ports: &mut ScriptPorts, count: u32) -> bool
-    requires { IsGoing bare_seen server.old }
-{
-    'rounds: for _ in 0..count {
-        if server.round(ports).is_err() {
-            return false;
-        }
-    }
-    true
-}
-
-/// What session 1 is sent in 40 rounds by links that take nothing, a byte or seven bytes at a time; nothing where events
-/// are left then.
-fn sent_slowly(alloc: Global, events: Vec<Event>) -> Result<Vec<u8>, AllocError>
-    requires { AreEvents events.items }
-{
-    let mut sends = Vec::new(alloc);
-    for _ in 0..12 {
-        sends.extend_from_slice(&[0, 1, 7])?;
-    }
-    let mut ports = ScriptPorts::new(alloc, events, sends)?;
-    let mut server = load(alloc)?;
-    if rounds(&mut server, &mut ports, 40) && ports.done() {
-        ports.sent(1).to_vec(alloc)
-    } else {
-        Ok(Vec::new(alloc))
-    }
-}
-
-#[test]
-fn slow_links_are_sent_the_same(rt: HostRuntime) -> Result<(), Fail> {
-    let alloc = rt.alloc();
-    let text = b"open imap\nsend 1 0 a NOOP\\r\\n\nsend 1 0 b NOOP\\r\\n\n";
-    let sent = match parse_script(alloc, text) {
-        Ok(events) => sent_slowly(alloc, events)?,
-        Err(_) => Vec::new(alloc),
-    };
-    let all = b"* OK IMAP4rev1 ready\r\na OK NOOP completed\r\nb OK NOOP completed\r\n";
-    assert_eq!(rt; sent.as_slice(), all.as_slice());
     Ok(())
 }
 
@@ -542,6 +475,22 @@ fn a_store_is_made_once_and_listed(rt: HostRuntime) -> Result<(), Fail> {
     let (status, written, _files) = on_files(alloc, "init", files)?;
     assert_eq!(rt; status, 8);
     assert_eq!(rt; written.as_slice(), b"refused: store exists\n".as_slice());
+    Ok(())
+}
+
+#[test]
+fn scripts_want_a_store(rt: HostRuntime) -> Result<(), Fail> {
+    let alloc = rt.alloc();
+    let cases: [(&[u8], &[u64], u8); 3] = [
+        (EMPTY_STORE, &[], 0),
+        (b"", &[], 7),
+        (EMPTY_STORE, &[1], 6),
+    ];
+    for (log, fails, status) in cases {
+        let (got, written, _files) = on_files(alloc, "script", files_of(alloc, log, fails)?)?;
+        assert_eq!(rt; got, status);
+        assert!(rt; written.is_empty());
+    }
     Ok(())
 }
 

@@ -1,0 +1,14 @@
+use Rattle.std.proofs.Common.{sym, subst}
+use Rattle.row_store.specs.Holding.{in_row, stored_by}
+use Rattle.row_store.specs.Crashes.{IsSettled}
+use Rattle.row_store.specs.Kept.{Store}
+use Rattle.mail_server.specs.Serving.{ServesStore}
+use Rattle.mail_server.proofs.serving.serve_store.Goals as goal
+
+pub serve_core-requires-clause-settled : goal.serve_core-requires-clause-settled
+serve_core-requires-clause-settled g c =
+    subst (λ (store : Store g.row.D.Denot). IsSettled g.D.Disk.told store.files (stored_by in_row store.tables)) (sym c.in-Ok.ensures.store) c.requires.settled
+
+pub returns-in-Ok : goal.returns-in-Ok
+returns-in-Ok g c =
+    subst (λ (store : Store g.row.D.Denot). ServesStore g.D.Disk.told c.args.events.items c.serve_core.result.0 store c.serve_core.result.1) c.in-Ok.ensures.store c.serve_core.ensures
