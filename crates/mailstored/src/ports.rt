@@ -4,12 +4,12 @@ ghost use Rattle.std.specs.Prelude.{None};
 
 use port_model::{Kind, ListenFault, PortRead, PortSend, Ports};
 
-/// Ports that nobody links to. They tell no history.
+/// Ports that nobody links to. Any history may be theirs.
 #[derive(Drop)]
 pub(crate) struct NoPorts {}
 
 impl Ports for NoPorts {
-    ghost history = { λ _. None };
+    ghost history = { λ _ _. Unit {0} };
 
     ghost listen_faults = { λ _. 0 };
 

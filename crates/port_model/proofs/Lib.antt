@@ -1,4 +1,5 @@
 pub mod Records
+pub mod Starving
 pub mod Left
 mod ScriptLemmas
 mod OpenSessionsLemmas

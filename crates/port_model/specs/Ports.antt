@@ -1,5 +1,6 @@
 -- What one call on ports may answer and leave.
-use Rattle.std.specs.Prelude.{ℕ, ◌≡◌, ◌≤◌, ◌<◌, List, ◌∷◌, Option, Some, None, take, IsSomeAnd}
+use Rattle.std.specs.Prelude.{ℕ, ◌≤◌, ◌<◌, List, ◌∷◌, take}
+use Rattle.port_model.specs.declared.calls.PortCall.{PortCall}
 use Rattle.port_model.specs.declared.calls.PortRead.{PortRead}
 use Rattle.port_model.specs.declared.calls.PortRead.TheVariants.{Bytes, Quiet, Ended, Lost}
 use Rattle.port_model.specs.declared.calls.PortSend.{PortSend}
@@ -7,11 +8,9 @@ use Rattle.port_model.specs.declared.calls.PortSend.TheVariants.{Took, Lost as S
 use Rattle.port_model.specs.declared.calls.ReadAnswer.{ReadAnswer}
 use Rattle.port_model.specs.declared.calls.ReadAnswer.TheVariants.{Gave, Quiet as WasQuiet, Ended as HasEnded, Lost as WasLost}
 
--- The call stands in the history that is told after it, before the calls that were told before. A history may
--- stop being told, as where its record finds no memory, and does not begin to be.
-abbrev pub Records : {A : Type 0} → A → Option (List A) → Option (List A) → Type 0
-Records call old (Some new) = IsSomeAnd old (λ before. new ≡ call ∷ before)
-Records call old None = Unit {0}
+-- A call goes on with each history that ports may have had.
+abbrev pub Records : PortCall → (List PortCall → Type 0) → (List PortCall → Type 0) → Type 0
+Records call old new = (before : List PortCall) → old before → new (call ∷ before)
 
 -- No count of faults fell.
 pub record NeverFall (listening : ℕ) (links : ℕ → ℕ) (listening' : ℕ) (links' : ℕ → ℕ) : Type 0 where

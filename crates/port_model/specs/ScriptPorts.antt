@@ -1,5 +1,5 @@
 -- What ports that play a script mean.
-use Rattle.std.specs.Prelude.{ℕ, ◌≡◌, ◌+◌, ◌-◌, ◌^◌, ◌==◌, Bool, true, false, List, [], ◌∷◌, Option, Some, None, min, if◌then◌else◌}
+use Rattle.std.specs.Prelude.{ℕ, ◌≡◌, ◌⊎◌, ◌+◌, ◌-◌, ◌^◌, ◌==◌, Bool, true, false, List, [], ◌∷◌, Option, Some, min, if◌then◌else◌}
 use Rattle.port_model.specs.declared.calls.PortCall.{PortCall}
 use Rattle.port_model.specs.declared.calls.PortCall.TheVariants.{Accept, Read, Now, Send, Close}
 use Rattle.port_model.specs.declared.calls.PortSend.{PortSend}
@@ -7,7 +7,7 @@ use Rattle.port_model.specs.declared.calls.PortSend.TheVariants.{Took, Lost as S
 use Rattle.port_model.specs.declared.calls.ReadAnswer.{ReadAnswer}
 use Rattle.port_model.specs.declared.calls.ReadAnswer.TheVariants.{Gave, Quiet, Ended, Lost}
 use Rattle.port_model.specs.Playing.{Plan, playing, IsPlayed}
-use Rattle.port_model.specs.History.{sent}
+use Rattle.port_model.specs.History.{PortEvent, Opened, Piece, Ended as HasEnded, Lost as WentLost, event_of, piece_at, sent}
 use Rattle.port_model.specs.Player.{Played}
 
 -- Ports that play a script: their plan, the calls that they recorded, the newest first, whether a record of a call
@@ -19,9 +19,31 @@ pub record Scripted : Type 0 where
   pub starved_accepts : ℕ
   pub starved_calls : ℕ
 
--- The calls are the whole history as long as each was recorded.
-abbrev pub told_history : Scripted → Option (List PortCall)
-told_history ports = if ports.starved then None else Some ports.calls
+-- With some events no link came, and no byte.
+abbrev pub GiveNothing : List PortEvent → Type 0
+GiveNothing [] = Unit {0}
+GiveNothing (Opened number kind ∷ older) = ⊥
+GiveNothing (Piece number bytes moment ∷ older) = ⊥
+GiveNothing (HasEnded number ∷ older) = GiveNothing older
+GiveNothing (WentLost number ∷ older) = GiveNothing older
+
+-- Each call of a history has the answer that the script gives, up to one from which on calls give nothing.
+abbrev pub IsPlayedUntil : Plan → List PortCall → Type 0
+IsPlayedUntil plan [] = Unit {0}
+IsPlayedUntil plan (call ∷ older) = IsPlayed plan (call ∷ older) ⊎ (GiveNothing (event_of call older) × IsPlayedUntil plan older)
+
+-- The history of ports since a record of a call found no memory. Each piece has had its reading of the clock.
+pub record Starves (plan : Plan) (history : List PortCall) : Type 0 where
+  pub until : IsPlayedUntil plan history
+  pub none_waits : (reading : ℕ) → piece_at reading history ≡ []
+
+abbrev pub HasCalls : Bool → Plan → List PortCall → List PortCall → Type 0
+HasCalls false plan calls history = history ≡ calls
+HasCalls true plan calls history = Starves plan history
+
+-- The history is the calls, as long as each was recorded.
+abbrev pub script_history : Scripted → List PortCall → Type 0
+script_history ports history = HasCalls ports.starved ports.plan ports.calls history
 
 abbrev pub its_plan : Scripted → Option Plan
 its_plan ports = Some ports.plan

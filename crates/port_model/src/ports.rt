@@ -13,8 +13,8 @@ use crate::calls::{Kind, ListenFault, PortRead, PortSend};
 
 /// The links to peers, each under a number that its user gives it.
 pub trait Ports {
-    /// The calls with their answers, the newest first, where they are told. They may stop being told, and don't begin to be.
-    ghost history: { Self → Option (List PortCall) };
+    /// Which calls with their answers, the newest first, may be those that were made. Where ports tell none, they may be any.
+    ghost history: { Self → List PortCall → Type 0 };
 
     /// How often listening failed. It never falls, and stays at `u64::MAX` once it is there. A call that asks for no link
     /// leaves it as it is, and so does one that gets an answer.

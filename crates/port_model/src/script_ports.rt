@@ -9,7 +9,7 @@ ghost use Rattle.port_model.specs.Ports.{Records, NeverFall, answer_of_read, Rea
 ghost use Rattle.port_model.specs.Playing.{IsAnswered, IsPlayed, playing};
 ghost use Rattle.port_model.specs.History.{sent};
 ghost use Rattle.port_model.specs.Player.{HasBytes};
-ghost use Rattle.port_model.specs.ScriptPorts.{Scripted, told_history, its_plan, listen_count, link_count};
+ghost use Rattle.port_model.specs.ScriptPorts.{Scripted, script_history, its_plan, listen_count, link_count};
 
 use crate::call_record::CallRecord;
 use crate::calls::{Kind, ListenFault, PortRead, PortSend};
@@ -97,7 +97,7 @@ impl ScriptPorts {
 }
 
 impl Ports for ScriptPorts {
-    ghost history = { told_history };
+    ghost history = { script_history };
 
     ghost listen_faults = { listen_count };
 
@@ -106,7 +106,7 @@ impl Ports for ScriptPorts {
     ghost plan = { its_plan };
 
     fn accept(&mut self, number: u32) -> Result<Option<Kind>, ListenFault>
-        ensures history { Records (Accept number result) (told_history self.old) (told_history self.new) }
+        ensures history { Records (Accept number result) (script_history self.old) (script_history self.new) }
         ensures cause { IsErr result → Rose (listen_count self.old) (listen_count self.new) }
         ensures counts { NeverFall (listen_count self.old) (link_count self.old) (listen_count self.new) (link_count self.new) }
         ensures quiet { OnOk result (listen_count self.new ≡ listen_count self.old) }
@@ -125,7 +125,7 @@ impl Ports for ScriptPorts {
 
     fn read(&mut self, number: u32, buf: &mut [u8]) -> PortRead
         requires { 0 < length buf.old }
-        ensures history { Records (Read number (length buf.old) (answer_of_read result buf.new)) (told_history self.old) (told_history self.new) }
+        ensures history { Records (Read number (length buf.old) (answer_of_read result buf.new)) (script_history self.old) (script_history self.new) }
         ensures within { ReadsWithin (length buf.old) result }
         ensures cause { result ≡ ReadLost → Rose (link_count self.old number) (link_count self.new number) }
         ensures counts { NeverFall (listen_count self.old) (link_count self.old) (listen_count self.new) (link_count self.new) }
@@ -144,7 +144,7 @@ impl Ports for ScriptPorts {
     }
 
     fn now(&mut self) -> u64
-        ensures history { Records (Now result) (told_history self.old) (told_history self.new) }
+        ensures history { Records (Now result) (script_history self.old) (script_history self.new) }
         ensures counts { NeverFall (listen_count self.old) (link_count self.old) (listen_count self.new) (link_count self.new) }
         ensures quiet { listen_count self.new ≡ listen_count self.old }
         ensures plan { its_plan self.new ≡ its_plan self.old }
@@ -159,7 +159,7 @@ impl Ports for ScriptPorts {
     }
 
     fn send(&mut self, number: u32, bytes: &[u8]) -> PortSend
-        ensures history { Records (Send number bytes.now result) (told_history self.old) (told_history self.new) }
+        ensures history { Records (Send number bytes.now result) (script_history self.old) (script_history self.new) }
         ensures within { TakesWithin (length bytes.now) result }
         ensures cause { result ≡ SendLost → Rose (link_count self.old number) (link_count self.new number) }
         ensures counts { NeverFall (listen_count self.old) (link_count self.old) (listen_count self.new) (link_count self.new) }
