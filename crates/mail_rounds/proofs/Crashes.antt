@@ -3,10 +3,8 @@ use Rattle.std.proofs.Common.{ℕ, ◌≡◌, Bool, true, false, cond, List, [],
 use Rattle.std.specs.List.{count_by, slice_get}
 use Rattle.port_model.specs.declared.calls.Kind.{Kind}
 use Rattle.port_model.specs.declared.calls.PortCall.{PortCall}
-use Rattle.port_model.specs.declared.calls.PortCall.TheVariants.{Accept, Read, Now}
-use Rattle.port_model.specs.declared.calls.ReadAnswer.TheVariants.{Gave}
-use Rattle.port_model.specs.Ports.{Records}
-use Rattle.port_model.specs.History.{PortEvent, Opened, Piece, events}
+use Rattle.port_model.specs.declared.calls.PortCall.TheVariants.{Accept}
+use Rattle.port_model.specs.History.{PortEvent, Opened, events}
 use Rattle.port_model.specs.Streams.{moment}
 use Rattle.imap_lexer.specs.declared.units.Shown.{Shown}
 use Rattle.imap_lexer.specs.Units.{Cut, first as first_unit}
@@ -18,15 +16,12 @@ use Rattle.mail_model.specs.Changes.{folded}
 use Rattle.mail_rounds.specs.declared.link.Link.{Link}
 use Rattle.mail_rounds.specs.CoreSeen.{CoreSeen, LeavesFiles}
 use Rattle.mail_rounds.specs.Crashes.{worlds_since, worlds_after, MayLeave, Crashes, TakingCrashes, MachineCrashes, GreetingCrashes}
-use Rattle.mail_rounds.specs.Calls.{Grows}
 use Rattle.mail_rounds.specs.Held.{Held, session_of, taking_in}
 use Rattle.mail_rounds.specs.Heard.{IsOfLink, IsTaking, HearingCrashes, and_event, acts}
-use Rattle.mail_rounds.specs.Serves.{Serves, Keeps, Makes}
+use Rattle.mail_rounds.specs.Serves.{Serves}
 use Rattle.mail_rounds.proofs.Kept.{at_once-kept, at_once-links, split-at}
-use Rattle.mail_rounds.proofs.Growing.{grows_one, grows_two}
 use Rattle.mail_rounds.proofs.Taking.{taking-is, take_byte-unit}
 use Rattle.mail_rounds.proofs.Keeping.{held-at, after-event, machine-event}
-use Rattle.mail_rounds.proofs.Making.{grows_then}
 
 -- Worlds and changes.
 
@@ -201,9 +196,12 @@ piece_rest seen old new law moment taking front more one =
     piece_then seen old new new moment taking front more one
     (crashes-idle seen new new here.shared.world here.changes later.shared.world later.changes (files-same seen new) (piece-grown law moment here more))
 
+-- The law that a session which leaves changes nothing.
+abbrev pub Leaving : Type 0
+Leaving = (shared : Shared) (session : Session) → ((leaves shared session).shared.world ≡ shared.world) × ((leaves shared session).changes ≡ [])
+
 -- what a session does whose link ended or was lost
-pub ending_crashes : {C : Type 0} (seen : CoreSeen C) (core core' : C) (link : Link) → ((shared : Shared) (session : Session) → ((leaves shared session).shared.world ≡ shared.world) × ((leaves shared session).changes ≡ []))
-    → LeavesFiles seen core core' → (shared : Shared) → TakingCrashes seen core core' (taking_of shared (session_of link)) (leaves shared (session_of link))
+pub ending_crashes : {C : Type 0} (seen : CoreSeen C) (core core' : C) (link : Link) → Leaving → LeavesFiles seen core core' → (shared : Shared) → TakingCrashes seen core core' (taking_of shared (session_of link)) (leaves shared (session_of link))
 ending_crashes seen core core' link law files shared =
     record { made = []; changes_are = (law shared (session_of link)).1; world_is = (law shared (session_of link)).0; left = λ since earlier l. files.left since (shared.world ∷ earlier) l }
 
@@ -216,32 +214,6 @@ no_event_heard seen core link before later e = record {
   events_are = e;
   leaves = λ shared stands. record { made = []; changes_are = refl; world_is = refl; left = λ since earlier l. l };
 }
-
-pub heard_none : {C : Type 0} (seen : CoreSeen C) (core : C) (link : Link) (history : Option (List PortCall)) → Grows (HearingCrashes seen core link core) history history
-heard_none seen core link None = tt
-heard_none seen core link (Some history) = no_event_heard seen core link history history refl
-
-pub heard_one : {C : Type 0} (seen : CoreSeen C) (core : C) (link : Link) (core' : C) (call : PortCall) (event : PortEvent) (old new : Option (List PortCall)) → Records call old new
-    → IsOfLink link.number (Some event) → ((before : List PortCall) → events (call ∷ before) ≡ event ∷ events before)
-    → ((shared : Shared) → TakingCrashes seen core core' (taking_of shared (session_of link)) (acts (Some event) shared (session_of link)))
-    → Grows (HearingCrashes seen core link core') old new
-heard_one seen core link core' call event old new recorded its are leaves =
-    grows_one (HearingCrashes seen core link core') call old new recorded
-    (λ before. record { event = Some event; its = its; events_are = are before; leaves = λ shared stands. leaves shared })
-
--- a link gave a piece
-pub heard_piece : {C : Type 0} (seen : CoreSeen C) (core : C) (link : Link) (core' : C) (piece : List ℕ) (reading room : ℕ) (old mid new : Option (List PortCall))
-    → Records (Read link.number room (Gave piece)) old mid → Records (Now reading) mid new → link.queue.items ≡ []
-    → ((taking : Taking) → IsTaking seen core link taking → TakingCrashes seen core core' taking (take_piece (moment reading) taking piece))
-    → Grows (HearingCrashes seen core link core') old new
-heard_piece seen core link core' piece reading room old mid new one two q did =
-    grows_two (HearingCrashes seen core link core') (Read link.number room (Gave piece)) (Now reading) old mid new one two
-    (λ before. record {
-      event = Some (Piece link.number piece (moment reading));
-      its = refl;
-      events_are = refl;
-      leaves = λ shared stands. did (taking_of shared (session_of link)) (record { stands = stands; session = refl; answers = q });
-    })
 
 -- Histories
 
@@ -290,50 +262,12 @@ hearing-crashes seen first before later core core' front link back last (Some ev
     (taken-crashes seen core core' m (session_of link) (acts (Some event) m.shared (session_of link)) (leaves m.shared serves.stands))
 
 -- what a link had happen, by its place
-hearing-at : {C : Type 0} (seen : CoreSeen C) (first : World) (before later : List PortCall) (core core' : C) (links : List Link) (i : ℕ) (link : Link) (last : ℕ)
+pub hearing_crash : {C : Type 0} (seen : CoreSeen C) (first : World) (before later : List PortCall) (core core' : C) (links : List Link) (i : ℕ) (link : Link) (last : ℕ)
     → slice_get links i ≡ Some link → HearingCrashes seen core link core' before later
     → Serves seen first before (record { core = core; links = links; last = last }) → MachineCrashes seen core core' first before later
-hearing-at seen first before later core core' links i link last at hears serves =
+hearing_crash seen first before later core core' links i link last at hears serves =
     hearing-crashes seen first before later core core' _ link _ last hears.event hears.its hears.events_are hears.leaves
     (subst (λ (xs : List Link). Serves seen first before (record { core = core; links = xs; last = last })) (split-at links i link at) serves)
-
-crash-grows : {C : Type 0} (seen : CoreSeen C) (Calls : List PortCall → List PortCall → Type 0) (held : Held C) (core' : C) (old new : Option (List PortCall))
-    → ((first : World) (before later : List PortCall) → Calls before later → Serves seen first before held → MachineCrashes seen held.core core' first before later)
-    → Grows Calls old new → Makes seen (MachineCrashes seen held.core core') old held new
-crash-grows seen Calls held core' old None each grows first serving = tt
-crash-grows seen Calls held core' None (Some later) each grows first serving = absurd grows
-crash-grows seen Calls held core' (Some before) (Some later) each grows first serving = each first before later grows serving
-
-pub hearing_crash : {C : Type 0} (seen : CoreSeen C) (core core' : C) (links : List Link) (i : ℕ) (link : Link) (last : ℕ) (old new : Option (List PortCall))
-    → slice_get links i ≡ Some link → Grows (HearingCrashes seen core link core') old new
-    → Makes seen (MachineCrashes seen core core') old (record { core = core; links = links; last = last }) new
-hearing_crash seen core core' links i link last old new at =
-    crash-grows seen (HearingCrashes seen core link core') (record { core = core; links = links; last = last }) core' old new
-    (λ first before later hears serves. hearing-at seen first before later core core' links i link last at hears serves)
-
--- no call
-pub crash_same : {C : Type 0} (seen : CoreSeen C) (held : Held C) (core' : C) (history : Option (List PortCall)) → LeavesFiles seen held.core core'
-    → Makes seen (MachineCrashes seen held.core core') history held history
-crash_same seen held core' None files first serving = tt
-crash_same seen held core' (Some history) files first serving = no_event seen held.core core' first history history refl files
-
--- one call
-pub crash_call : {C : Type 0} (seen : CoreSeen C) (call : PortCall) (held : Held C) (core' : C) (old new : Option (List PortCall))
-    → ((first : World) (before : List PortCall) → Serves seen first before held → MachineCrashes seen held.core core' first before (call ∷ before))
-    → Records call old new → Makes seen (MachineCrashes seen held.core core') old held new
-crash_call seen call held core' old None each recorded first serving = tt
-crash_call seen call held core' None (Some later) each recorded first serving = absurd recorded
-crash_call seen call held core' (Some before) (Some later) each recorded first serving =
-    subst (λ (calls : List PortCall). MachineCrashes seen held.core core' first before calls) (sym recorded) (each first before serving)
-
--- one after another
-pub crash_then : {C : Type 0} (seen : CoreSeen C) (held later : Held C) (core' : C) (old mid new : Option (List PortCall))
-    → Makes seen (MachineCrashes seen held.core later.core) old held mid → Keeps seen old held mid later → Makes seen (MachineCrashes seen later.core core') mid later new
-    → Makes seen (MachineCrashes seen held.core core') old held new
-crash_then seen held later core' old mid new one keeps two first serving =
-    grows_then seen (MachineCrashes seen held.core later.core first) (MachineCrashes seen later.core core' first) (MachineCrashes seen held.core core' first) first held later old mid new
-    (λ a b c s s' one two. crashes-then seen held.core later.core core' (after first a).shared.world (after first a).changes (after first b).shared.world (after first b).changes (after first c).shared.world (after first c).changes one two)
-    (one first serving) (two first (keeps first serving)) serving (keeps first serving)
 
 -- a greeting that was made or begun, or not
 pub greeting_made : {C : Type 0} (seen : CoreSeen C) (core mid core' : C) (links : List Link) (number : ℕ) (kind : Kind) (others : ℕ) → Worlds → others ≡ count_by (λ link. is_open link.standing) links

@@ -8,7 +8,6 @@ use Rattle.std.proofs.lemmas.List.{map-append}
 use Rattle.port_model.specs.declared.calls.Kind.{Kind}
 use Rattle.port_model.specs.declared.calls.PortCall.{PortCall}
 use Rattle.port_model.specs.declared.calls.PortCall.TheVariants.{Accept, Close}
-use Rattle.port_model.specs.Ports.{Records}
 use Rattle.port_model.specs.History.{PortEvent, Opened, Piece, Ended, Lost, events, sent, is_closed}
 use Rattle.imap_lexer.specs.declared.units.Form.{Form}
 use Rattle.imap_lexer.specs.Units.{first}
@@ -21,8 +20,8 @@ use Rattle.mail_rounds.specs.declared.link.Link.{Link}
 use Rattle.mail_rounds.specs.Steps.{IsStep}
 use Rattle.mail_rounds.specs.Held.{Held, session_of, queue_of, Ascending}
 use Rattle.mail_rounds.specs.Heard.{IsOfLink, IsLossOf, and_event, acts, IsTaking, Hears, Offered}
-use Rattle.mail_rounds.specs.Serves.{Answered, OpenAreKept, Serves, Keeps, IsGreeted, Opens}
-use Rattle.mail_rounds.specs.Calls.{Grows, is_kept, is_loss, is_lost}
+use Rattle.mail_rounds.specs.Serves.{Answered, OpenAreKept, Serves, IsGreeted, Opens}
+use Rattle.mail_rounds.specs.Calls.{is_kept, is_loss, is_lost}
 use Rattle.mail_rounds.proofs.Kept.{apart, same, ascending-within, ascending-here, ascending-becomes, ascending-without, ascending-more, queue-past, queue-here, queue-other, queue-without, queue-gone, queue-more, at-here, becomes-here, at-other, at-becomes, at-more-other, at-kept, found-kept, becomes-kept, kept-same, open_kept-same, open_kept-becomes, open_kept-more, at_once-kept, at_once-links, kept-closing, without-here, open_kept-closing, split-at, set-at, sessions-same}
 
 cases : {A : Type 0} (a b : ℕ) → (a ≡ b → A) → (a ≢ b → A) → A
@@ -509,7 +508,7 @@ keeps_waiting seen first history held number serves = record {
   open_linked = serves.open_linked;
 }
 
--- Where the links are given by a place, and histories may not be told.
+-- Where the links are given by a place.
 
 placed : (P : List Link → List Link → Type 0) (links : List Link) (i : ℕ) (link new : Link) → slice_get links i ≡ Some link
     → P (take i links ++ link ∷ drop (suc i) links) (take i links ++ new ∷ drop (suc i) links) → P links (set links i new)
@@ -531,39 +530,9 @@ keeps_offering seen first before later core core' links i link new last at offer
     placed (λ xs ys. Serves seen first before (holding core xs last) → Serves seen first later (holding core' ys last)) links i link new at
     (offering-at seen first before later core core' (take i links) link new (drop (suc i) links) last offered.event offered refl e)
 
--- calls by which a server that served goes on serving
-pub serving-grows : {C : Type 0} (seen : CoreSeen C) (Calls : List PortCall → List PortCall → Type 0) (held held' : Held C) (old new : Option (List PortCall))
-    → ((first : World) (before later : List PortCall) → Calls before later → Serves seen first before held → Serves seen first later held')
-    → Grows Calls old new → Keeps seen old held new held'
-serving-grows seen Calls held held' old None step grows first serving = tt
-serving-grows seen Calls held held' None (Some later) step grows first serving = absurd grows
-serving-grows seen Calls held held' (Some before) (Some later) step grows first serving = step first before later grows serving
-
-pub keeps_hearing_told : {C : Type 0} (seen : CoreSeen C) (core core' : C) (links : List Link) (i : ℕ) (link new : Link) (last : ℕ) (old later : Option (List PortCall))
-    → slice_get links i ≡ Some link → new.number ≡ link.number → Grows (Hears seen core link core' new) old later
-    → Keeps seen old (holding core links last) later (holding core' (set links i new) last)
-keeps_hearing_told seen core core' links i link new last old later at e =
-    serving-grows seen (Hears seen core link core' new) (holding core links last) (holding core' (set links i new) last) old later
-    (λ first before later hears. keeps_hearing seen first before later core core' links i link new last at hears e)
-
-pub keeps_offering_told : {C : Type 0} (seen : CoreSeen C) (core core' : C) (links : List Link) (i : ℕ) (link new : Link) (last : ℕ) (old later : Option (List PortCall))
-    → slice_get links i ≡ Some link → new.number ≡ link.number → Grows (Offered seen core link core' new) old later
-    → Keeps seen old (holding core links last) later (holding core' (set links i new) last)
-keeps_offering_told seen core core' links i link new last old later at e =
-    serving-grows seen (Offered seen core link core' new) (holding core links last) (holding core' (set links i new) last) old later
-    (λ first before later offered. keeps_offering seen first before later core core' links i link new last at offered e)
-
 pub keeps_closing : {C : Type 0} (seen : CoreSeen C) (first : World) (history : List PortCall) (core : C) (links : List Link) (i : ℕ) (link : Link) (last : ℕ)
     → slice_get links i ≡ Some link → is_open link.standing ≡ false → link.queue.items ≡ []
     → Serves seen first history (holding core links last) → Serves seen first (Close link.number ∷ history) (holding core (remove links i) last)
 keeps_closing seen first history core links i link last at shut empty serves =
     closing-at seen first history core (take i links) link (drop (suc i) links) last shut empty
     (subst (λ (xs : List Link). Serves seen first history (holding core xs last)) (split-at links i link at) serves)
-
--- a call by which a server that served goes on serving
-pub keeps_call : {C : Type 0} (seen : CoreSeen C) (call : PortCall) (held held' : Held C) (old new : Option (List PortCall))
-    → ((first : World) (before : List PortCall) → Serves seen first before held → Serves seen first (call ∷ before) held')
-    → Records call old new → Keeps seen old held new held'
-keeps_call seen call held held' old None step records first serving = tt
-keeps_call seen call held held' None (Some later) step records first serving = absurd records
-keeps_call seen call held held' (Some before) (Some later) step records first serving = subst (λ (calls : List PortCall). Serves seen first calls held') (sym records) (step first before serving)

@@ -1,5 +1,5 @@
 pub mod Taking
-pub mod Growing
+pub mod OneLink
 pub mod Kept
 pub mod Keeping
 pub mod Chains

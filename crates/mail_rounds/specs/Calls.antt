@@ -1,7 +1,7 @@
 -- Which calls the rounds make on the ports, told by the machine, whatever the ports answer: in each round every session is
 -- offered what it was answered since, those whose session is over are closed, one new session at most is taken, and each
 -- open session is asked once.
-use Rattle.std.specs.Prelude.{ℕ, ◌≡◌, ◌+◌, ◌-◌, ◌^◌, ◌==◌, ◌||◌, not, nat_eq, Bool, true, false, List, [], ◌∷◌, Option, Result, length, take, drop, map, filter, IsSomeAnd, IfSome, if◌then◌else◌}
+use Rattle.std.specs.Prelude.{ℕ, ◌≡◌, ◌+◌, ◌-◌, ◌^◌, ◌==◌, ◌||◌, not, nat_eq, Bool, true, false, List, [], ◌∷◌, Option, Result, length, take, drop, map, filter, if◌then◌else◌}
 use Rattle.port_model.specs.declared.calls.Kind.{Kind}
 use Rattle.port_model.specs.declared.calls.ListenFault.{ListenFault}
 use Rattle.port_model.specs.declared.calls.PortSend.{PortSend}
@@ -16,9 +16,9 @@ use Rattle.mail_model.specs.declared.standing.Standing.TheVariants.{Open, Closin
 use Rattle.imap_steps.specs.Stepping.{World}
 use Rattle.mail_model.specs.Machine.{Session, after}
 
--- The history that is told after some calls is the one before with these calls in front.
-abbrev pub Grows : (List PortCall → List PortCall → Type 0) → Option (List PortCall) → Option (List PortCall) → Type 0
-Grows Calls old new = IfSome new (λ later. IsSomeAnd old (λ before. Calls before later))
+-- From each history that ports may have had, a step like this leads to one that they may have now.
+abbrev pub GoesOn : (List PortCall → List PortCall → Type 0) → (List PortCall → Type 0) → (List PortCall → Type 0) → Type 0
+GoesOn Step old new = (before : List PortCall) → old before → (later : List PortCall) × new later × Step before later
 
 -- how many bytes a link is read at a time
 abbrev pub read_room : ℕ
@@ -120,14 +120,18 @@ pub record TakesSome (asked : ℕ) (first : World) (before later : List PortCall
 abbrev pub Takes : World → List PortCall → List PortCall → Type 0
 Takes first before later = TakesSome (length (dues first before)) first before later
 
+-- The same as far as some sessions were asked.
+abbrev pub TakesPart : World → List PortCall → List PortCall → Type 0
+TakesPart first before later = (asked : ℕ) × TakesSome asked first before later
+
 -- The calls of a round: those of `flush`, and then those of `take`.
 pub record Rounds (first : World) (before later : List PortCall) : Type 0 where
   pub flushed : List PortCall
   pub flushes : Flushes first before flushed
   pub takes : Takes first flushed later
 
--- The same as far as so many sessions were asked.
-pub record RoundsSome (asked : ℕ) (first : World) (before later : List PortCall) : Type 0 where
+-- The same as far as some sessions were asked.
+pub record RoundsPart (first : World) (before later : List PortCall) : Type 0 where
   pub flushed : List PortCall
   pub flushes : Flushes first before flushed
-  pub takes : TakesSome asked first flushed later
+  pub takes : TakesPart first flushed later

@@ -9,7 +9,8 @@ use Rattle.mail_model.specs.Machine.{Session, Taking, is_open, standing_after, t
 use Rattle.mail_rounds.specs.declared.link.Link.{Link}
 use Rattle.mail_rounds.specs.CoreSeen.{CoreSeen}
 use Rattle.mail_rounds.specs.Crashes.{TakingCrashes}
-use Rattle.mail_rounds.specs.Held.{session_of}
+use Rattle.mail_rounds.specs.Calls.{Asks, Offers}
+use Rattle.mail_rounds.specs.Held.{AtLink, session_of}
 
 -- The event, if there is one, is of the link of a number, and opens none.
 abbrev pub IsOfLink : ℕ → Option PortEvent → Type 0
@@ -91,3 +92,14 @@ pub record HearingCrashes {C : Type 0} (seen : CoreSeen C) (core : C) (link : Li
   pub its : IsOfLink link.number event
   pub events_are : events later ≡ and_event event (events before)
   pub leaves : (shared : Shared) → seen.stands core shared → TakingCrashes seen core core' (taking_of shared (session_of link)) (acts event shared (session_of link))
+
+-- The calls for a link that was offered what it had to send, what they did, and what a crash leaves of it.
+pub record Offering {C : Type 0} (seen : CoreSeen C) (core : C) (link : Link) (core' : C) (link' : Link) (before later : List PortCall) : Type 0 where
+  pub calls : AtLink Offers link before later
+  pub offered : Offered seen core link core' link' before later
+  pub crashes : HearingCrashes seen core link core' before later
+
+-- The calls for a link that was asked, and what a crash leaves of it, whether or not that ended with a fault.
+pub record Hearing {C : Type 0} (seen : CoreSeen C) (core : C) (link : Link) (core' : C) (before later : List PortCall) : Type 0 where
+  pub calls : AtLink Asks link before later
+  pub crashes : HearingCrashes seen core link core' before later

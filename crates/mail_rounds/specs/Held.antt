@@ -1,11 +1,12 @@
 -- What a server holds, over plain values.
-use Rattle.std.specs.Prelude.{ℕ, ◌<◌, ◌≤◌, ◌==◌, List, [], ◌∷◌, Option, if◌then◌else◌}
+use Rattle.std.specs.Prelude.{ℕ, ◌<◌, ◌≤◌, ◌==◌, List, [], ◌∷◌, IfSome, slice_get, take, if◌then◌else◌}
 use Rattle.port_model.specs.declared.calls.PortCall.{PortCall}
 use Rattle.mail_model.specs.Machine.{Made, Session, Taking}
-use Rattle.imap_steps.specs.Stepping.{Shared}
+use Rattle.port_model.specs.Chain.{Chain}
+use Rattle.imap_steps.specs.Stepping.{Shared, World}
 use Rattle.mail_rounds.specs.declared.link.Link.{Link}
 use Rattle.mail_rounds.specs.declared.server.Server.{Server}
-use Rattle.mail_rounds.specs.Calls.{Due, Grows}
+use Rattle.mail_rounds.specs.Calls.{Due, Asks}
 
 -- The core, the links that aren't closed, and the number of the latest one.
 pub record Held (C : Type 0) : Type 0 where
@@ -25,8 +26,20 @@ abbrev pub due_of : Link → Due
 due_of link = record { number = link.number; standing = link.standing; unsent = link.queue.items }
 
 -- The calls for a link are these for what is due to its session.
-abbrev pub AtLink : (Due → List PortCall → List PortCall → Type 0) → Link → Option (List PortCall) → Option (List PortCall) → Type 0
-AtLink Calls link old new = Grows (Calls (due_of link)) old new
+abbrev pub AtLink : (Due → List PortCall → List PortCall → Type 0) → Link → List PortCall → List PortCall → Type 0
+AtLink Calls link before later = Calls (due_of link) before later
+
+-- The calls for the link at a place,
+abbrev pub AtPlace : (Due → List PortCall → List PortCall → Type 0) → List Link → ℕ → World → List PortCall → List PortCall → Type 0
+AtPlace Calls links i first before later = IfSome (slice_get links i) (λ link. AtLink Calls link before later)
+
+-- and for one link after another.
+abbrev pub AtEach : (Due → List PortCall → List PortCall → Type 0) → List Link → World → List PortCall → List PortCall → Type 0
+AtEach Calls links first before later = Chain (AtLink Calls) links before later
+
+-- The same as far as some of so many links were asked.
+abbrev pub AsksPart : ℕ → List Link → World → List PortCall → List PortCall → Type 0
+AsksPart count links first before later = (asked : ℕ) × (asked ≤ count) × AtEach Asks (take asked links) first before later
 
 -- a link's session with what is shared, and its queue as what it is answered, where these changes were made
 abbrev pub taking_in : Shared → Link → List Made → Taking

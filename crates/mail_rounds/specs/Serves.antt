@@ -1,5 +1,5 @@
 -- The relation between a server and the machine, and what keeps it.
-use Rattle.std.specs.Prelude.{ℕ, ◌≡◌, ◌<◌, Bool, true, false, List, [], ◌∷◌, ◌++◌, Option, Some, None, map, filter}
+use Rattle.std.specs.Prelude.{ℕ, ◌≡◌, ◌<◌, Bool, true, false, List, [], ◌∷◌, ◌++◌, Some, None, map, filter}
 use Rattle.port_model.specs.declared.calls.Kind.{Kind}
 use Rattle.port_model.specs.declared.calls.PortCall.{PortCall}
 use Rattle.port_model.specs.History.{events, sent, is_closed}
@@ -10,7 +10,8 @@ use Rattle.mail_rounds.specs.declared.link.Link.{Link}
 use Rattle.mail_rounds.specs.declared.server.Server.{Server}
 use Rattle.mail_rounds.specs.CoreSeen.{CoreSeen}
 use Rattle.mail_rounds.specs.Held.{Held, session_of, queue_of, Ascending}
-use Rattle.mail_rounds.specs.Calls.{Grows, is_kept, is_lost}
+use Rattle.mail_rounds.specs.Calls.{is_kept, is_lost}
+use Rattle.mail_rounds.specs.Crashes.{MachineCrashes}
 
 -- What was sent, with what is still to be sent, is what the machine answered. By a lost link its front was sent, and
 -- nothing is still to be sent.
@@ -38,18 +39,19 @@ pub record Serves {C : Type 0} (seen : CoreSeen C) (first : World) (history : Li
   pub open_linked : (number : ℕ) (session : Session) → session_at number (after first history).sessions ≡ Some session → is_open session.standing ≡ true
       → is_lost number (events history) ≡ false
 
--- the same where the history is told
-abbrev pub Serving : {C : Type 0} → CoreSeen C → World → Option (List PortCall) → Held C → Type 0
-Serving seen first None held = Unit {0}
-Serving seen first (Some history) held = Serves seen first history held
+-- What a part of a round did, from one history to a later one: these calls, and what a crash leaves of it.
+pub record Makes {C : Type 0} (seen : CoreSeen C) (Calls : World → List PortCall → List PortCall → Type 0) (old new : C) (first : World) (before later : List PortCall) : Type 0 where
+  pub calls : Calls first before later
+  pub crash : MachineCrashes seen old new first before later
 
--- Where the server held what the machine had after the old history, it holds what the machine has after the new one.
-abbrev pub Keeps : {C : Type 0} → CoreSeen C → Option (List PortCall) → Held C → Option (List PortCall) → Held C → Type 0
-Keeps seen old before new later = (first : World) → Serving seen first old before → Serving seen first new later
+-- A part of a round that went well: where the server held what the machine had, it holds what the machine has then.
+abbrev pub Does : {C : Type 0} → CoreSeen C → (World → List PortCall → List PortCall → Type 0) → Held C → Held C → List PortCall → List PortCall → Type 0
+Does seen Calls old new before later =
+    (first : World) → Serves seen first before old → Makes seen Calls old.core new.core first before later × Serves seen first later new
 
--- Where the server held what the machine had after the old history, that grew by such calls.
-abbrev pub Makes : {C : Type 0} → CoreSeen C → (World → List PortCall → List PortCall → Type 0) → Option (List PortCall) → Held C → Option (List PortCall) → Type 0
-Makes seen Calls old before new = (first : World) → Serving seen first old before → Grows (Calls first) old new
+-- A part of a round that ended with a fault.
+abbrev pub Begins : {C : Type 0} → CoreSeen C → (World → List PortCall → List PortCall → Type 0) → Held C → Held C → List PortCall → List PortCall → Type 0
+Begins seen Calls old new before later = (first : World) → Serves seen first before old → Makes seen Calls old.core new.core first before later
 
 -- what a greeting leaves of the core and the new link
 pub record IsGreeted {C : Type 0} (seen : CoreSeen C) (core : C) (link : Link) (shared : Shared) (number : ℕ) (greeted : Stepped) : Type 0 where

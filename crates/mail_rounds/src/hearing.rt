@@ -1,6 +1,6 @@
 //! What comes by one link is taken.
 
-ghost use Rattle.std.specs.Prelude.{ℕ, ◌≡◌, ◌≤◌, ◌++◌, List, OnOk, IfOk, IsErrOf, None, length, take, if◌then◌else◌};
+ghost use Rattle.std.specs.Prelude.{ℕ, ◌≡◌, ◌≤◌, ◌++◌, List, OnOk, OnErr, IfOk, IsErrOf, None, length, take, if◌then◌else◌};
 ghost use Rattle.port_model.specs.Ports.{NeverFall};
 ghost use Rattle.port_model.specs.Streams.{moment};
 ghost use Rattle.imap_lexer.specs.Units.{first, is_prompted};
@@ -9,9 +9,9 @@ ghost use Rattle.imap_steps.specs.Step.{step};
 ghost use Rattle.mail_model.specs.Machine.{Taking, go_ahead, take_byte, take_piece};
 ghost use Rattle.mail_rounds.specs.CoreSeen.{SomeRose};
 ghost use Rattle.mail_rounds.specs.Crashes.{MayLeave, TakingCrashes};
-ghost use Rattle.mail_rounds.specs.Calls.{Grows, Asks, read_room};
-ghost use Rattle.mail_rounds.specs.Held.{AtLink, session_of};
-ghost use Rattle.mail_rounds.specs.Heard.{Hears, HearingCrashes, IsTaking, AfterStep, in_session};
+ghost use Rattle.mail_rounds.specs.Calls.{GoesOn, read_room};
+ghost use Rattle.mail_rounds.specs.Held.{session_of};
+ghost use Rattle.mail_rounds.specs.Heard.{Hearing, Hears, IsTaking, AfterStep, in_session};
 
 use crate::ending::{end_session, settle};
 use crate::link::Link;
@@ -159,11 +159,11 @@ pub(crate) fn hear<C: Core, P: Ports>(
     ensures plan { P.plan ports.new ≡ P.plan ports.old }
     ensures counts { NeverFall (P.listen_faults ports.old) (P.link_faults ports.old) (P.listen_faults ports.new) (P.link_faults ports.new) }
     ensures quiet { P.listen_faults ports.new ≡ P.listen_faults ports.old }
-    ensures calls { AtLink Asks link.old (P.history ports.old) (P.history ports.new) }
-    ensures hears { OnOk result (Grows (Hears C.seen core.old link.old core.new link.new) (P.history ports.old) (P.history ports.new)) }
+    ensures done { OnOk result (GoesOn (λ before later. Hearing C.seen core.old link.old core.new before later × Hears C.seen core.old link.old core.new link.new before later)
+        (P.history ports.old) (P.history ports.new)) }
+    ensures part { OnErr result (GoesOn (Hearing C.seen core.old link.old core.new) (P.history ports.old) (P.history ports.new)) }
     ensures number { link.new.number ≡ link.old.number }
     ensures ready { OnOk result (C.seen.ready core.new) }
-    ensures crash { Grows (HearingCrashes C.seen core.old link.old core.new) (P.history ports.old) (P.history ports.new) }
     ensures failed { IsErrOf result CoreFault.Failed → SomeRose (C.seen.faults core.old) (C.seen.faults core.new) }
     ensures stored { (IsErrOf result CoreFault.Failed → ⊥) → C.seen.faults core.new ≡ C.seen.faults core.old }
 {

@@ -3,17 +3,16 @@
 ghost use Rattle.std.specs.Prelude.{ℕ, ◌≡◌, ◌≢◌, ◌<◌, ◌≤◌, ◌+◌, ◌∷◌, ◌++◌, false, [], List, Option, OnOk, OnErr, IfOk, IfErr, IsErrOf, IfSome, length, take, drop, slice_get, is_err, is_ok, count_by, map};
 ghost use Rattle.fault_counts.specs.Rose.{Rose};
 ghost use Rattle.port_model.specs.Ports.{NeverFall};
-ghost use Rattle.port_model.specs.Chain.{Chain};
 ghost use Rattle.imap_steps.specs.Stepping.{World, Shared};
 ghost use Rattle.imap_steps.specs.Step.{greeting};
 ghost use Rattle.mail_model.specs.Machine.{Made, at_once, is_open};
 ghost use Rattle.mail_rounds.specs.declared.rounds.RoundFault.TheVariants.{NoMemory as RoundNoMemory};
 ghost use Rattle.mail_rounds.specs.CoreSeen.{LeavesFiles, SomeRose};
-ghost use Rattle.mail_rounds.specs.Crashes.{GreetingCrashes, MachineCrashes};
-ghost use Rattle.mail_rounds.specs.Held.{held, Held, AtLink, session_of};
-ghost use Rattle.mail_rounds.specs.Calls.{Grows, Offers, Asks, Closes, Accepts, Flushes, TakesSome, Takes, RoundsSome, Rounds};
+ghost use Rattle.mail_rounds.specs.Crashes.{GreetingCrashes};
+ghost use Rattle.mail_rounds.specs.Held.{held, Held, AsksPart, AtEach, AtPlace, session_of};
+ghost use Rattle.mail_rounds.specs.Calls.{GoesOn, Offers, Asks, Closes, Accepts, Flushes, Takes, TakesPart, Rounds, RoundsPart};
 ghost use Rattle.mail_rounds.specs.Faults.{fault_of};
-ghost use Rattle.mail_rounds.specs.Serves.{IsGoing, Keeps, Makes, Serves, Opens};
+ghost use Rattle.mail_rounds.specs.Serves.{Begins, Does, IsGoing, Serves, Opens};
 
 use crate::ending::settle;
 use crate::hearing::hear;
@@ -187,14 +186,12 @@ impl<C: Core> Server<C> {
         ensures plan { P.plan ports.new ≡ P.plan ports.old }
         ensures counts { NeverFall (P.listen_faults ports.old) (P.link_faults ports.old) (P.listen_faults ports.new) (P.link_faults ports.new) }
         ensures quiet { P.listen_faults ports.new ≡ P.listen_faults ports.old }
-        ensures calls { IfSome (slice_get self.old.links.items i) (λ link. AtLink Offers link (P.history ports.old) (P.history ports.new)) }
-        ensures keeps { Keeps C.seen (P.history ports.old) (held self.old) (P.history ports.new) (held self.new) }
+        ensures goes { GoesOn (Does C.seen (AtPlace Offers self.old.links.items i) (held self.old) (held self.new)) (P.history ports.old) (P.history ports.new) }
         ensures others { (k : ℕ) → k ≢ i → slice_get self.new.links.items k ≡ slice_get self.old.links.items k }
         ensures count { length self.new.links.items ≡ length self.old.links.items }
         ensures last { self.new.last ≡ self.old.last }
         ensures ready { C.seen.ready self.new.core }
         ensures files { LeavesFiles C.seen self.old.core self.new.core }
-        ensures crash { Makes C.seen (MachineCrashes C.seen self.old.core self.new.core) (P.history ports.old) (held self.old) (P.history ports.new) }
         ensures spent { self.new.spent ≡ self.old.spent }
     {
         offer(&mut self.core, &mut self.links[i], ports);
@@ -206,11 +203,9 @@ impl<C: Core> Server<C> {
         ensures plan { P.plan ports.new ≡ P.plan ports.old }
         ensures counts { NeverFall (P.listen_faults ports.old) (P.link_faults ports.old) (P.listen_faults ports.new) (P.link_faults ports.new) }
         ensures quiet { P.listen_faults ports.new ≡ P.listen_faults ports.old }
-        ensures calls { Chain (AtLink Offers) self.old.links.items (P.history ports.old) (P.history ports.new) }
-        ensures keeps { Keeps C.seen (P.history ports.old) (held self.old) (P.history ports.new) (held self.new) }
+        ensures goes { GoesOn (Does C.seen (AtEach Offers self.old.links.items) (held self.old) (held self.new)) (P.history ports.old) (P.history ports.new) }
         ensures ready { C.seen.ready self.new.core }
         ensures files { LeavesFiles C.seen self.old.core self.new.core }
-        ensures crash { Makes C.seen (MachineCrashes C.seen self.old.core self.new.core) (P.history ports.old) (held self.old) (P.history ports.new) }
         ensures spent { self.new.spent ≡ self.old.spent }
     {
         'offers: for i in 0..self.links.len() {
@@ -224,13 +219,11 @@ impl<C: Core> Server<C> {
         ensures plan { P.plan ports.new ≡ P.plan ports.old }
         ensures counts { NeverFall (P.listen_faults ports.old) (P.link_faults ports.old) (P.listen_faults ports.new) (P.link_faults ports.new) }
         ensures quiet { P.listen_faults ports.new ≡ P.listen_faults ports.old }
-        ensures calls { IfSome (slice_get self.old.links.items i) (λ link. AtLink Closes link (P.history ports.old) (P.history ports.new)) }
-        ensures keeps { Keeps C.seen (P.history ports.old) (held self.old) (P.history ports.new) (held self.new) }
+        ensures goes { GoesOn (Does C.seen (AtPlace Closes self.old.links.items i) (held self.old) (held self.new)) (P.history ports.old) (P.history ports.new) }
         ensures rest { drop result self.new.links.items ≡ drop (i + 1) self.old.links.items }
         ensures within { (result ≤ length self.new.links.items) × (length self.new.links.items ≤ length self.old.links.items) }
         ensures index { result + length self.old.links.items ≡ i + 1 + length self.new.links.items }
         ensures core { self.new.core ≡ self.old.core }
-        ensures crash { Makes C.seen (MachineCrashes C.seen self.old.core self.new.core) (P.history ports.old) (held self.old) (P.history ports.new) }
         ensures spent { self.new.spent ≡ self.old.spent }
     {
         let link = &self.links[i];
@@ -253,10 +246,8 @@ impl<C: Core> Server<C> {
         ensures plan { P.plan ports.new ≡ P.plan ports.old }
         ensures counts { NeverFall (P.listen_faults ports.old) (P.link_faults ports.old) (P.listen_faults ports.new) (P.link_faults ports.new) }
         ensures quiet { P.listen_faults ports.new ≡ P.listen_faults ports.old }
-        ensures calls { Chain (AtLink Closes) self.old.links.items (P.history ports.old) (P.history ports.new) }
-        ensures keeps { Keeps C.seen (P.history ports.old) (held self.old) (P.history ports.new) (held self.new) }
+        ensures goes { GoesOn (Does C.seen (AtEach Closes self.old.links.items) (held self.old) (held self.new)) (P.history ports.old) (P.history ports.new) }
         ensures core { self.new.core ≡ self.old.core }
-        ensures crash { Makes C.seen (MachineCrashes C.seen self.old.core self.new.core) (P.history ports.old) (held self.old) (P.history ports.new) }
         ensures spent { self.new.spent ≡ self.old.spent }
     {
         let mut i = 0;
@@ -272,10 +263,10 @@ impl<C: Core> Server<C> {
         ensures plan { P.plan ports.new ≡ P.plan ports.old }
         ensures counts { NeverFall (P.listen_faults ports.old) (P.link_faults ports.old) (P.listen_faults ports.new) (P.link_faults ports.new) }
         ensures quiet { P.listen_faults ports.new ≡ P.listen_faults ports.old }
-        ensures calls { Makes C.seen Flushes (P.history ports.old) (held self.old) (P.history ports.new) }
-        ensures keeps { Keeps C.seen (P.history ports.old) (held self.old) (P.history ports.new) (held self.new) }
+
+        // By exactly these calls, and a crash leaves the world as it was. Where the server held what the machine had, it does so then.
+        ensures goes { GoesOn (Does C.seen Flushes (held self.old) (held self.new)) (P.history ports.old) (P.history ports.new) }
         ensures files { LeavesFiles C.seen self.old.core self.new.core }
-        ensures crash { Makes C.seen (MachineCrashes C.seen self.old.core self.new.core) (P.history ports.old) (held self.old) (P.history ports.new) }
         ensures going { IsGoing C.seen self.new }
     {
         self.offer_all(ports);
@@ -318,13 +309,12 @@ impl<C: Core> Server<C> {
         requires ready { C.seen.ready self.old.core }
         ensures plan { P.plan ports.new ≡ P.plan ports.old }
         ensures counts { NeverFall (P.listen_faults ports.old) (P.link_faults ports.old) (P.listen_faults ports.new) (P.link_faults ports.new) }
-        ensures calls { Grows (Accepts self.old.last) (P.history ports.old) (P.history ports.new) }
-        ensures keeps { OnOk result (Keeps C.seen (P.history ports.old) (held self.old) (P.history ports.new) (held self.new)) }
+        ensures done { OnOk result (GoesOn (Does C.seen (λ first. Accepts self.old.last) (held self.old) (held self.new)) (P.history ports.old) (P.history ports.new)) }
+        ensures part { OnErr result (GoesOn (Begins C.seen (λ first. Accepts self.old.last) (held self.old) (held self.new)) (P.history ports.old) (P.history ports.new)) }
         ensures front { OnOk result (take (length self.old.links.items) self.new.links.items ≡ self.old.links.items) }
         ensures listen { IsErrOf result RoundFault.ListenFault → Rose (P.listen_faults ports.old) (P.listen_faults ports.new) }
         ensures quiet { (IsErrOf result RoundFault.ListenFault → ⊥) → P.listen_faults ports.new ≡ P.listen_faults ports.old }
         ensures ready { OnOk result (C.seen.ready self.new.core) }
-        ensures crash { Makes C.seen (MachineCrashes C.seen self.old.core self.new.core) (P.history ports.old) (held self.old) (P.history ports.new) }
         ensures failed { IsErrOf result RoundFault.StoreFault → SomeRose (C.seen.faults self.old.core) (C.seen.faults self.new.core) }
         ensures stored { (IsErrOf result RoundFault.StoreFault → ⊥) → C.seen.faults self.new.core ≡ C.seen.faults self.old.core }
         ensures spent { self.new.spent ≡ self.old.spent }
@@ -347,12 +337,11 @@ impl<C: Core> Server<C> {
         ensures plan { P.plan ports.new ≡ P.plan ports.old }
         ensures counts { NeverFall (P.listen_faults ports.old) (P.link_faults ports.old) (P.listen_faults ports.new) (P.link_faults ports.new) }
         ensures quiet { P.listen_faults ports.new ≡ P.listen_faults ports.old }
-        ensures calls { IfSome (slice_get self.old.links.items i) (λ link. AtLink Asks link (P.history ports.old) (P.history ports.new)) }
-        ensures keeps { OnOk result (Keeps C.seen (P.history ports.old) (held self.old) (P.history ports.new) (held self.new)) }
+        ensures done { OnOk result (GoesOn (Does C.seen (AtPlace Asks self.old.links.items i) (held self.old) (held self.new)) (P.history ports.old) (P.history ports.new)) }
+        ensures part { OnErr result (GoesOn (Begins C.seen (AtPlace Asks self.old.links.items i) (held self.old) (held self.new)) (P.history ports.old) (P.history ports.new)) }
         ensures others { (k : ℕ) → k ≢ i → slice_get self.new.links.items k ≡ slice_get self.old.links.items k }
         ensures count { length self.new.links.items ≡ length self.old.links.items }
         ensures ready { OnOk result (C.seen.ready self.new.core) }
-        ensures crash { Makes C.seen (MachineCrashes C.seen self.old.core self.new.core) (P.history ports.old) (held self.old) (P.history ports.new) }
         ensures failed { IsErrOf result CoreFault.Failed → SomeRose (C.seen.faults self.old.core) (C.seen.faults self.new.core) }
         ensures stored { (IsErrOf result CoreFault.Failed → ⊥) → C.seen.faults self.new.core ≡ C.seen.faults self.old.core }
         ensures spent { self.new.spent ≡ self.old.spent }
@@ -367,11 +356,9 @@ impl<C: Core> Server<C> {
         ensures plan { P.plan ports.new ≡ P.plan ports.old }
         ensures counts { NeverFall (P.listen_faults ports.old) (P.link_faults ports.old) (P.listen_faults ports.new) (P.link_faults ports.new) }
         ensures quiet { P.listen_faults ports.new ≡ P.listen_faults ports.old }
-        ensures calls { OnOk result (Chain (AtLink Asks) (take count self.old.links.items) (P.history ports.old) (P.history ports.new)) }
-        ensures part { ((asked : ℕ) × (asked ≤ count) × Chain (AtLink Asks) (take asked self.old.links.items) (P.history ports.old) (P.history ports.new)) }
-        ensures keeps { OnOk result (Keeps C.seen (P.history ports.old) (held self.old) (P.history ports.new) (held self.new)) }
+        ensures done { OnOk result (GoesOn (Does C.seen (AtEach Asks (take count self.old.links.items)) (held self.old) (held self.new)) (P.history ports.old) (P.history ports.new)) }
+        ensures part { OnErr result (GoesOn (Begins C.seen (AsksPart count self.old.links.items) (held self.old) (held self.new)) (P.history ports.old) (P.history ports.new)) }
         ensures ready { OnOk result (C.seen.ready self.new.core) }
-        ensures crash { Makes C.seen (MachineCrashes C.seen self.old.core self.new.core) (P.history ports.old) (held self.old) (P.history ports.new) }
         ensures failed { IsErrOf result CoreFault.Failed → SomeRose (C.seen.faults self.old.core) (C.seen.faults self.new.core) }
         ensures stored { (IsErrOf result CoreFault.Failed → ⊥) → C.seen.faults self.new.core ≡ C.seen.faults self.old.core }
         ensures spent { self.new.spent ≡ self.old.spent }
@@ -382,28 +369,6 @@ impl<C: Core> Server<C> {
         Ok(())
     }
 
-    /// The events of one round.
-    fn take_events<P: Ports>(&mut self, ports: &mut P) -> Result<(), RoundFault>
-        requires ready { C.seen.ready self.old.core }
-        ensures plan { P.plan ports.new ≡ P.plan ports.old }
-        ensures counts { NeverFall (P.listen_faults ports.old) (P.link_faults ports.old) (P.listen_faults ports.new) (P.link_faults ports.new) }
-        ensures calls { OnOk result (Makes C.seen Takes (P.history ports.old) (held self.old) (P.history ports.new)) }
-        ensures part { ((asked : ℕ) × Makes C.seen (TakesSome asked) (P.history ports.old) (held self.old) (P.history ports.new)) }
-        ensures keeps { OnOk result (Keeps C.seen (P.history ports.old) (held self.old) (P.history ports.new) (held self.new)) }
-        ensures listen { IsErrOf result RoundFault.ListenFault → Rose (P.listen_faults ports.old) (P.listen_faults ports.new) }
-        ensures quiet { (IsErrOf result RoundFault.ListenFault → ⊥) → P.listen_faults ports.new ≡ P.listen_faults ports.old }
-        ensures ready { OnOk result (C.seen.ready self.new.core) }
-        ensures crash { Makes C.seen (MachineCrashes C.seen self.old.core self.new.core) (P.history ports.old) (held self.old) (P.history ports.new) }
-        ensures failed { IsErrOf result RoundFault.StoreFault → SomeRose (C.seen.faults self.old.core) (C.seen.faults self.new.core) }
-        ensures stored { (IsErrOf result RoundFault.StoreFault → ⊥) → C.seen.faults self.new.core ≡ C.seen.faults self.old.core }
-        ensures spent { self.new.spent ≡ self.old.spent }
-    {
-        let count = self.links.len();
-        self.accept(ports)?;
-        self.ask_all(count, ports)?;
-        Ok(())
-    }
-
     /// Takes one new link, if one came, and then what came by each link that is open and has nothing to send, in the
     /// order of their numbers. It sends nothing. After a fault the server is given up.
     pub fn take<P: Ports>(&mut self, ports: &mut P) -> Result<(), RoundFault>
@@ -411,23 +376,23 @@ impl<C: Core> Server<C> {
         ensures plan { P.plan ports.new ≡ P.plan ports.old }
         ensures counts { NeverFall (P.listen_faults ports.old) (P.link_faults ports.old) (P.listen_faults ports.new) (P.link_faults ports.new) }
 
-        // The history grew by exactly these calls, and at a fault by a part of them from the front.
-        ensures calls { OnOk result (Makes C.seen Takes (P.history ports.old) (held self.old) (P.history ports.new)) }
-        ensures part { ((asked : ℕ) × Makes C.seen (TakesSome asked) (P.history ports.old) (held self.old) (P.history ports.new)) }
-        ensures keeps { OnOk result (Keeps C.seen (P.history ports.old) (held self.old) (P.history ports.new) (held self.new)) }
+        // By exactly these calls, and at a fault by a part of them from the front. With whatever answer, a crash leaves the world
+        // after some of the changes that they make.
+        ensures done { OnOk result (GoesOn (Does C.seen Takes (held self.old) (held self.new)) (P.history ports.old) (P.history ports.new)) }
+        ensures part { OnErr result (GoesOn (Begins C.seen TakesPart (held self.old) (held self.new)) (P.history ports.old) (P.history ports.new)) }
         ensures listen { IsErrOf result RoundFault.ListenFault → Rose (P.listen_faults ports.old) (P.listen_faults ports.new) }
         ensures quiet { (IsErrOf result RoundFault.ListenFault → ⊥) → P.listen_faults ports.new ≡ P.listen_faults ports.old }
         ensures going { OnOk result (IsGoing C.seen self.new) }
-
-        // With whatever answer, a crash leaves the world after some of the changes that the new history has more.
-        ensures crash { Makes C.seen (MachineCrashes C.seen self.old.core self.new.core) (P.history ports.old) (held self.old) (P.history ports.new) }
         ensures failed { IsErrOf result RoundFault.StoreFault → SomeRose (C.seen.faults self.old.core) (C.seen.faults self.new.core) }
         ensures stored { (IsErrOf result RoundFault.StoreFault → ⊥) → C.seen.faults self.new.core ≡ C.seen.faults self.old.core }
         ensures spent { self.new.spent ≡ is_err result }
     {
-        let outcome = self.take_events(ports);
-        self.spent = outcome.is_err();
-        outcome
+        self.spent = true;
+        let count = self.links.len();
+        self.accept(ports)?;
+        self.ask_all(count, ports)?;
+        self.spent = false;
+        Ok(())
     }
 
     /// One round: `flush`, then `take`. So a byte that is sent answers an event of an earlier round.
@@ -436,16 +401,13 @@ impl<C: Core> Server<C> {
         ensures plan { P.plan ports.new ≡ P.plan ports.old }
         ensures counts { NeverFall (P.listen_faults ports.old) (P.link_faults ports.old) (P.listen_faults ports.new) (P.link_faults ports.new) }
 
-        // The history grew by exactly these calls, and at a fault by a part of them from the front.
-        ensures calls { OnOk result (Makes C.seen Rounds (P.history ports.old) (held self.old) (P.history ports.new)) }
-        ensures part { ((asked : ℕ) × Makes C.seen (RoundsSome asked) (P.history ports.old) (held self.old) (P.history ports.new)) }
-        ensures keeps { OnOk result (Keeps C.seen (P.history ports.old) (held self.old) (P.history ports.new) (held self.new)) }
+        // By exactly these calls, and at a fault by a part of them from the front. With whatever answer, a crash leaves the world
+        // after some of the changes that they make.
+        ensures done { OnOk result (GoesOn (Does C.seen Rounds (held self.old) (held self.new)) (P.history ports.old) (P.history ports.new)) }
+        ensures part { OnErr result (GoesOn (Begins C.seen RoundsPart (held self.old) (held self.new)) (P.history ports.old) (P.history ports.new)) }
         ensures listen { IsErrOf result RoundFault.ListenFault → Rose (P.listen_faults ports.old) (P.listen_faults ports.new) }
         ensures quiet { (IsErrOf result RoundFault.ListenFault → ⊥) → P.listen_faults ports.new ≡ P.listen_faults ports.old }
         ensures going { OnOk result (IsGoing C.seen self.new) }
-
-        // With whatever answer, a crash leaves the world after some of the changes that the new history has more.
-        ensures crash { Makes C.seen (MachineCrashes C.seen self.old.core self.new.core) (P.history ports.old) (held self.old) (P.history ports.new) }
         ensures failed { IsErrOf result RoundFault.StoreFault → SomeRose (C.seen.faults self.old.core) (C.seen.faults self.new.core) }
         ensures stored { (IsErrOf result RoundFault.StoreFault → ⊥) → C.seen.faults self.new.core ≡ C.seen.faults self.old.core }
         ensures spent { self.new.spent ≡ is_err result }

@@ -3,9 +3,8 @@
 ghost use Rattle.std.specs.Prelude.{◌≡◌, List, take, drop, ◌≤◌, length};
 ghost use Rattle.port_model.specs.Ports.{NeverFall};
 ghost use Rattle.mail_rounds.specs.CoreSeen.{LeavesFiles};
-ghost use Rattle.mail_rounds.specs.Calls.{Grows, Offers};
-ghost use Rattle.mail_rounds.specs.Held.{AtLink};
-ghost use Rattle.mail_rounds.specs.Heard.{HearingCrashes, Offered};
+ghost use Rattle.mail_rounds.specs.Calls.{GoesOn};
+ghost use Rattle.mail_rounds.specs.Heard.{Offering};
 
 use crate::ending::end_session;
 use crate::link::Link;
@@ -29,11 +28,9 @@ pub(crate) fn offer<C: Core, P: Ports>(core: &mut C, link: &mut Link, ports: &mu
     ensures plan { P.plan ports.new ≡ P.plan ports.old }
     ensures counts { NeverFall (P.listen_faults ports.old) (P.link_faults ports.old) (P.listen_faults ports.new) (P.link_faults ports.new) }
     ensures quiet { P.listen_faults ports.new ≡ P.listen_faults ports.old }
-    ensures calls { AtLink Offers link.old (P.history ports.old) (P.history ports.new) }
-    ensures offered { Grows (Offered C.seen core.old link.old core.new link.new) (P.history ports.old) (P.history ports.new) }
+    ensures goes { GoesOn (Offering C.seen core.old link.old core.new link.new) (P.history ports.old) (P.history ports.new) }
     ensures number { link.new.number ≡ link.old.number }
     ensures ready { C.seen.ready core.new }
-    ensures crash { Grows (HearingCrashes C.seen core.old link.old core.new) (P.history ports.old) (P.history ports.new) }
     ensures files { LeavesFiles C.seen core.old core.new }
 {
     steps_record_their_changes();

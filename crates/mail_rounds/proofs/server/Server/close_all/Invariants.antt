@@ -1,10 +1,8 @@
 use Rattle.std.proofs.Common.{◌≡◌, ◌≤◌, ◌+◌, ◌-◌, length, take, drop}
 use Rattle.port_model.specs.Ports.{NeverFall}
-use Rattle.port_model.specs.Chain.{Chain}
-use Rattle.mail_rounds.specs.Crashes.{MachineCrashes}
-use Rattle.mail_rounds.specs.Held.{held, AtLink}
-use Rattle.mail_rounds.specs.Calls.{Closes}
-use Rattle.mail_rounds.specs.Serves.{Keeps, Makes}
+use Rattle.mail_rounds.specs.Held.{held, AtEach}
+use Rattle.mail_rounds.specs.Calls.{GoesOn, Closes}
+use Rattle.mail_rounds.specs.Serves.{Does}
 use Rattle.mail_rounds.proofs.server.Server.close_all.Given as goal
 
 -- As many links were looked at as stand before the index or are gone, and the others are as they were.
@@ -16,10 +14,9 @@ invariant-closing g l = record {
   within : l.i ≤ length l.self.links.items;
   fewer : length l.self.links.items ≤ length l.fn.self.links.items;
   rest : drop l.i l.self.links.items ≡ drop (l.i + (length l.fn.self.links.items - length l.self.links.items)) l.fn.self.links.items;
-  calls : Chain (AtLink Closes) (take (l.i + (length l.fn.self.links.items - length l.self.links.items)) l.fn.self.links.items) (g.P.Ports.history l.fn.ports) (g.P.Ports.history l.ports);
-  keeps : Keeps g.C.Core.seen (g.P.Ports.history l.fn.ports) (held l.fn.self) (g.P.Ports.history l.ports) (held l.self);
+  goes : GoesOn (Does g.C.Core.seen (AtEach Closes (take (l.i + (length l.fn.self.links.items - length l.self.links.items)) l.fn.self.links.items)) (held l.fn.self) (held l.self))
+      (g.P.Ports.history l.fn.ports) (g.P.Ports.history l.ports);
   core : l.self.core ≡ l.fn.self.core;
-  crash : Makes g.C.Core.seen (MachineCrashes g.C.Core.seen l.fn.self.core l.self.core) (g.P.Ports.history l.fn.ports) (held l.fn.self) (g.P.Ports.history l.ports);
   spent : l.self.spent ≡ l.fn.self.spent;
 }
 
