@@ -1,6 +1,6 @@
 -- A run over a text ends as the table of its word has it.
-use Rattle.std.proofs.Common.{◌≡◌, ℕ, ◌+◌, ◌<◌, ◌≤◌, ◌≢◌, Bool, true, false, nat_lt, nat_le, List, ◌∷◌, [], length, refl, sym, ◌∙◌, subst, inl, inr, arith}
-use Rattle.std.specs.Prelude.{◌⊎◌, Option, Some, None, Result, Ok, Err, IfOk, IfSome, OnOk, MatchResult}
+use Rattle.std.proofs.Common.{◌≡◌, ℕ, ◌+◌, ◌<◌, ◌≤◌, Bool, true, false, nat_lt, nat_le, List, ◌∷◌, [], length, refl, sym, ◌∙◌, subst, inl, inr, arith}
+use Rattle.std.specs.Prelude.{◌⊎◌, Option, Some, None, Result, Ok, Err, IfOk, IfSome, IsErr, MatchResult}
 use Rattle.std.proofs.lemmas.Bool.Decides.{nat_tests}
 use Rattle.std.specs.Option.{option_map}
 use Rattle.fault_counts.specs.Rose.{Rose}
@@ -23,7 +23,7 @@ use Rattle.mail_server.specs.Texts.{IsText, TakesText, Answers, StopsAnswering, 
 use Rattle.imap_steps.specs.Stepping.{World}
 use Rattle.mail_model.specs.Machine.{Made}
 use Rattle.mailbox_core.specs.Left.{HoldsWorld, Left}
-use Rattle.row_store.specs.ThreeFiles.{LogMoments}
+use Rattle.row_store.specs.ThreeFiles.{CountsNoFault, LogMoments}
 use Rattle.mail_rounds.specs.Crashes.{worlds_since}
 use Rattle.mail_server.specs.Run.{ServesEnd, canon_end}
 use Rattle.mail_server.specs.WorldFiles.{LeavesChanges}
@@ -110,9 +110,10 @@ reading-end : {S K C D : Type 0} (tells : Tells S K C) (told : Told D) (task : T
 reading-end tells told Script old new files stops = (stops, refl)
 reading-end tells told Canon old new files stops = stops
 
-wants-end : {S K C D : Type 0} (tells : Tells S K C) (told : Told D) (task : Task) (old new : Outside S K C) (files files' : Files D) → WantsMemory tells task old new → Ends tells told task NoMemory old new files files'
-wants-end tells told Script old new files files' wants = wants
-wants-end tells told Canon old new files files' wants = wants
+wants-end : {S K C D : Type 0} (tells : Tells S K C) (told : Told D) (task : Task) (old new : Outside S K C) (files files' : Files D) → WantsMemory tells task old new → CountsNoFault told files files'
+    → Ends tells told task NoMemory old new files files'
+wants-end tells told Script old new files files' wants quiet = (wants, quiet)
+wants-end tells told Canon old new files files' wants quiet = wants
 
 -- The text that a source has, by what was read of it: it ends a run as what was read does.
 whole-text : {D : Type 0} (told : Told D) (task : Task) (bytes : List ℕ) (files files' : Files D) (old new : Option (List ℕ)) → ReadsUpTo (limit_of task) bytes old new
@@ -131,38 +132,34 @@ same-text {D} told Script text files files' same = subst (λ (f : Files D). Leav
 same-text told Canon text files files' same = same
 
 -- The text that a source has leaves of the files what that does which was read of it.
-leaves-left : {D : Type 0} (told : Told D) (task : Task) (bytes : List ℕ) (now : ℕ) (files files' : Files D) (end : End) (old new : Option (List ℕ)) → ReadsUpTo (limit_of task) bytes old new
-    → EndsAs told task bytes now files files' end → LeavesText told task bytes files files' → IfSome old (λ text. LeavesText told task text files files')
-leaves-left told task bytes now files files' end None new reads ends leaves = tt
-leaves-left told task bytes now files files' end (Some text) new reads ends leaves = by_length (nat_le (length bytes) (limit_of task)) refl
+leaves-left : {D : Type 0} (told : Told D) (task : Task) (bytes : List ℕ) (files files' : Files D) (old new : Option (List ℕ)) → ReadsUpTo (limit_of task) bytes old new
+    → (limit_of task < length bytes → files' ≡ files) → LeavesText told task bytes files files' → IfSome old (λ text. LeavesText told task text files files')
+leaves-left told task bytes files files' None new reads long leaves = tt
+leaves-left told task bytes files files' (Some text) new reads long leaves = by_length (nat_le (length bytes) (limit_of task)) refl
   where
     by_length : (b : Bool) → nat_le (length bytes) (limit_of task) ≡ b → LeavesText told task text files files'
     by_length true is =
         let le : length bytes ≤ limit_of task = grind (arith, nat_tests, is) in
         subst (λ (t : List ℕ). LeavesText told task t files files') (sym (read-same (limit_of task) text bytes new reads le)) leaves
-    by_length false is =
-        let gt : limit_of task < length bytes = grind (arith, nat_tests, is) in
-        same-text told task text files files' (long-ends told task bytes now files files' end gt ends).1
+    by_length false is = same-text told task text files files' (long (grind (arith, nat_tests, is)))
 
 always-some : (left : Option (List ℕ)) (P : List ℕ → Type 0) → ((text : List ℕ) → P text) → IfSome left P
 always-some None P each = tt
 always-some (Some text) P each = each text
 
-pub left-always : {D E : Type 0} (told : Told D) (task : Task) (text : List ℕ) (files : Files D) (answer : Result Answer E) → OnOk answer (LeavesText told task text files files)
-left-always told task text files (Ok answer) = same-text told task text files files refl
-left-always told task text files (Err error) = tt
+pub left-always : {D : Type 0} (told : Told D) (task : Task) (text : List ℕ) (files : Files D) → LeavesText told task text files files
+left-always told task text files = same-text told task text files files refl
 
 -- What a script has written ends a run as the table has it, and leaves of the files what its events do.
 pub script_answers : {D E : Type 0} (told : Told D) (text : List ℕ) (events : List Event) (now : ℕ) (files files' : Files D) (answer : Result Answer E) → script_events text ≡ Ok events → length text ≤ limit_of Script
     → ServesFiles told events answer files files' → IfOk answer (λ answer. EndsAs told Script text now files files' (end_of answer))
 script_answers told text events now files files' (Err error) says short serves = tt
 script_answers told text events now files files' (Ok answer) says short serves =
-    ends-short told Script text now files files' (end_of answer) short (subst (λ (said : Result (List Event) ℕ). EventsEnd told said files files' (end_of answer)) (sym says) serves.0)
+    ends-short told Script text now files files' (end_of answer) short (subst (λ (said : Result (List Event) ℕ). EventsEnd told said files files' (end_of answer)) (sym says) serves.ends)
 
 pub script_leaves : {D E : Type 0} (told : Told D) (text : List ℕ) (events : List Event) (files files' : Files D) (answer : Result Answer E) → script_events text ≡ Ok events
-    → ServesFiles told events answer files files' → OnOk answer (LeavesChanges told (changes_of text) files files')
-script_leaves told text events files files' (Err error) says serves = tt
-script_leaves told text events files files' (Ok answer) says serves = subst (λ (said : Result (List Event) ℕ). LeavesChanges told (changes_in said) files files') (sym says) serves.1
+    → ServesFiles told events answer files files' → LeavesChanges told (changes_of text) files files'
+script_leaves told text events files files' answer says serves = subst (λ (said : Result (List Event) ℕ). LeavesChanges told (changes_in said) files files') (sym says) serves.leaves
 
 -- What a message has a run write ends it as the table has it.
 pub canon-answers : {D E : Type 0} (told : Told D) (text : List ℕ) (now : ℕ) (files : Files D) (answer : Result Answer E) → IfOk answer (λ answer. end_of answer ≡ canon_end text now)
@@ -173,7 +170,7 @@ canon-answers told text now files (Err error) is = tt
 -- the tables hold for a task with what is kept however it ends
 of-task : {S K C D : Type 0} (tells : Tells S K C) (told : Told D) (task : Task) (status : Status) (old new : Outside S K C) (files files' : Files D)
     → Ends tells told task status old new files files' → ReadsText task (tells.left old.source) (tells.left new.source) → (task ≡ Script → new.clock ≡ old.clock)
-    → (status ≢ NoMemory → IfSome (tells.left old.source) (λ text. LeavesText told task text files files')) → (task ≡ Canon → files' ≡ files)
+    → IfSome (tells.left old.source) (λ text. LeavesText told task text files files') → (task ≡ Canon → files' ≡ files)
     → AnswersText tells told task status old new files files'
 of-task tells told Script status old new files files' ends reads clock leaves same = record { ends = ends; reads = reads; clock = clock refl; leaves = leaves }
 of-task tells told Canon status old new files files' ends reads clock leaves same = record { ends = ends; reads = reads; untouched = same refl }
@@ -186,10 +183,13 @@ pub answered : {S K C D : Type 0} (tells : Tells S K C) (told : Told D) (task : 
     (old new : Outside S K C) (files files' : Files D) → limit ≡ limit_of task → text ≡ bytes → ReadsUpTo limit bytes (tells.left old.source) (tells.left new.source)
     → tells.read_faults new.source ≡ tells.read_faults old.source → AnswersAt tells.readings told task text answer old.clock new.clock files files'
     → MatchResult answer (λ answer. EndsWriting tells.written tells.write_faults answer.status answer.lines.items status old.sink new.sink) (λ error. (status ≡ NoMemory) × (new.sink ≡ old.sink))
-    → OnOk answer (LeavesText told task text files files') → (task ≡ Canon → files' ≡ files) → AnswersText tells told task status old new files files'
-answered {S} {K} {C} {D} tells told task limit bytes text {E} answer status old new files files' bound whole read quiet at writes leaves same =
-    of-task tells told task status old new files files' (ends answer status at.2 writes) (record { bytes = bytes; taken = reads.taken; within = reads.within })
-    (script-clock tells.readings task at.0 old.clock new.clock at.1) (left answer at.2 leaves writes) same
+    → LeavesText told task text files files' → (limit_of task < length text → files' ≡ files) → (IsErr answer → CountsNoFault told files files') → (task ≡ Canon → files' ≡ files)
+    → AnswersText tells told task status old new files files'
+answered {S} {K} {C} {D} tells told task limit bytes text {E} answer status old new files files' bound whole read quiet at writes leaves long unhurt same =
+    of-task tells told task status old new files files' (ends answer status at.2 writes unhurt) (record { bytes = bytes; taken = reads.taken; within = reads.within })
+    (script-clock tells.readings task at.0 old.clock new.clock at.1)
+    (leaves-left told task bytes files files' (tells.left old.source) (tells.left new.source) reads (subst (λ (b : List ℕ). limit_of task < length b → files' ≡ files) whole long)
+    (subst (λ (b : List ℕ). LeavesText told task b files files') whole leaves)) same
   where
     reads : ReadsUpTo (limit_of task) bytes (tells.left old.source) (tells.left new.source)
     reads = subst (λ (n : ℕ). ReadsUpTo n bytes (tells.left old.source) (tells.left new.source)) bound read
@@ -203,18 +203,10 @@ answered {S} {K} {C} {D} tells told task limit bytes text {E} answer status old 
     of-read : (end : End) → EndsAs told task text at.0 files files' end → EndsAs told task bytes at.0 files files' end
     of-read end = subst (λ (b : List ℕ). EndsAs told task b at.0 files files' end) whole
 
-    left : (answer : Result Answer E) → IfOk answer (λ answer. EndsAs told task text at.0 files files' (end_of answer)) → OnOk answer (LeavesText told task text files files')
-        → MatchResult answer (λ answer. EndsWriting tells.written tells.write_faults answer.status answer.lines.items status old.sink new.sink) (λ error. (status ≡ NoMemory) × (new.sink ≡ old.sink))
-        → status ≢ NoMemory → IfSome (tells.left old.source) (λ text. LeavesText told task text files files')
-    left (Ok answer) is its writes other =
-        leaves-left told task bytes at.0 files files' (end_of answer) (tells.left old.source) (tells.left new.source) reads (of-read (end_of answer) is)
-        (subst (λ (b : List ℕ). LeavesText told task b files files') whole its)
-    left (Err error) is its none other = absurd (other none.0)
-
     ends : (answer : Result Answer E) (status : Status) → IfOk answer (λ answer. EndsAs told task text at.0 files files' (end_of answer))
         → MatchResult answer (λ answer. EndsWriting tells.written tells.write_faults answer.status answer.lines.items status old.sink new.sink) (λ error. (status ≡ NoMemory) × (new.sink ≡ old.sink))
-        → Ends tells told task status old new files files'
-    ends (Ok answer) status is (inl done) =
+        → (IsErr answer → CountsNoFault told files files') → Ends tells told task status old new files files'
+    ends (Ok answer) status is (inl done) unhurt =
         let a : Answers tells told task status old new files files' = record {
           text = all.0;
           now = at.0;
@@ -226,7 +218,7 @@ answered {S} {K} {C} {D} tells told task limit bytes text {E} answer status old 
         } in
         answers-end tells told task status old new files files' a
         (λ e. reads.to_end (short-done told task bytes at.0 files files' (end_of answer) (of-read (end_of answer) is) (sym done.0 ∙ e))) (fits tells told task status old new files files' a)
-    ends (Ok answer) status is (inr stops) =
+    ends (Ok answer) status is (inr stops) unhurt =
         subst (λ (s : Status). Ends tells told task s old new files files') (sym stops.0) (stops-end tells told task old new files files' (record {
           text = all.0;
           now = at.0;
@@ -235,8 +227,8 @@ answered {S} {K} {C} {D} tells told task limit bytes text {E} answer status old 
           said = all.2 at.0 (end_of answer) (of-read (end_of answer) is);
           stops = stops.1;
         }))
-    ends (Err error) status is none =
-        subst (λ (s : Status). Ends tells told task s old new files files') (sym none.0) (wants-end tells told task old new files files' (record { quiet = quiet; unwritten = none.1; clock = inr (at.0, at.1) }))
+    ends (Err error) status is none unhurt =
+        subst (λ (s : Status). Ends tells told task s old new files files') (sym none.0) (wants-end tells told task old new files files' (record { quiet = quiet; unwritten = none.1; clock = inr (at.0, at.1) }) (unhurt refl))
 
 -- A text could not be read.
 pub unread : {S K C D : Type 0} (tells : Tells S K C) (told : Told D) (task : Task) (limit : ℕ) (status : Status) (old new : Outside S K C) (files : Files D) → limit ≡ limit_of task
@@ -246,12 +238,12 @@ pub unread : {S K C D : Type 0} (tells : Tells S K C) (told : Told D) (task : Ta
 unread tells told task limit status old new files bound some unwritten clock how =
     of-task tells told task status old new files files (ends how)
     (record { bytes = some.bytes; taken = some.taken; within = subst (λ (n : ℕ). length some.bytes ≤ n + 1) bound some.within }) (λ is. clock)
-    (λ other. always-some (tells.left old.source) (λ text. LeavesText told task text files files) (λ text. same-text told task text files files refl)) (λ is. refl)
+    (always-some (tells.left old.source) (λ text. LeavesText told task text files files) (λ text. same-text told task text files files refl)) (λ is. refl)
   where
     ends : ((status ≡ ReadFault) × Rose (tells.read_faults old.source) (tells.read_faults new.source)) ⊎ ((status ≡ NoMemory) × (tells.read_faults new.source ≡ tells.read_faults old.source))
         → Ends tells told task status old new files files
     ends (inl fault) = subst (λ (s : Status). Ends tells told task s old new files files) (sym fault.0) (reading-end tells told task old new files (record { rose = fault.1; unwritten = unwritten; unread = clock }))
-    ends (inr none) = subst (λ (s : Status). Ends tells told task s old new files files) (sym none.0) (wants-end tells told task old new files files (record { quiet = none.1; unwritten = unwritten; clock = inl clock }))
+    ends (inr none) = subst (λ (s : Status). Ends tells told task s old new files files) (sym none.0) (wants-end tells told task old new files files (record { quiet = none.1; unwritten = unwritten; clock = inl clock }) (refl, refl, refl))
 
 -- Words that are none of the program's do nothing.
 pub unasked : {S K C D : Type 0} (tells : Tells S K C) (told : Told D) (asked : Option Asked) (found : Option Command) (code : ℕ) (old : Outside S K C) (files : Files D)

@@ -1,5 +1,5 @@
 -- What a crash leaves in the middle of a script.
-use Rattle.std.proofs.Common.{ℕ, ◌≡◌, ◌+◌, List, [], ◌∷◌, ◌++◌, Option, Some, None, map, refl, sym, ◌∙◌, ap, subst, append_assoc, length}
+use Rattle.std.proofs.Common.{ℕ, ◌≡◌, ◌+◌, List, [], ◌∷◌, ◌++◌, Option, Some, None, map, refl, sym, ◌∙◌, ap, subst, append_assoc, append-nil, length}
 use Rattle.port_model.specs.declared.calls.PortCall.{PortCall}
 use Rattle.port_model.specs.declared.events.Event.{Event}
 use Rattle.port_model.specs.History.{PortEvent, Opened, Piece, Ended, Lost, events}
@@ -7,7 +7,7 @@ use Rattle.imap_steps.specs.Stepping.{World, Change, Shared}
 use Rattle.imap_steps.specs.Step.{greeting}
 use Rattle.mail_model.specs.Machine.{Machine, Made, Session, Taking, and_change, at_once, behind, hears_piece, leaves, machine, after, session_at, take_event, takes}
 use Rattle.mail_model.specs.Changes.{folded}
-use Rattle.mail_rounds.specs.CoreSeen.{CoreSeen}
+use Rattle.mail_rounds.specs.CoreSeen.{CoreSeen, LeavesFiles}
 use Rattle.mail_rounds.specs.Crashes.{MachineCrashes, worlds_since}
 use Rattle.mail_server.specs.Script.{script_machine, port_event}
 use Rattle.mail_server.specs.OnScript.{IsPartway, LeavesMade, LeavesScript, PartCrashes}
@@ -86,24 +86,29 @@ worlds-more first (one ∷ more) made earlier =
     (folded first (one ∷ (more ++ made)) ∷ rest.0, ap (λ (worlds : List World). folded first (one ∷ (more ++ made)) ∷ worlds) rest.1)
 
 -- What leaves some of a script's changes leaves some of them all.
-leaves-all : {C : Type 0} (seen : CoreSeen C) (old new : C) (first : World) (script : List Event) (calls : List PortCall) → LeavesMade seen old new first (after first calls).changes → IsPartway first script calls
+pub leaves_script : {C : Type 0} (seen : CoreSeen C) (old new : C) (first : World) (script : List Event) (calls : List PortCall) → LeavesMade seen old new first (after first calls).changes → IsPartway first script calls
     → LeavesScript seen old new first script
-leaves-all seen old new first script calls leaves partway since earlier left =
+leaves_script seen old new first script calls leaves partway since earlier left =
     let made : List Made = (after first calls).changes in
     let more = worlds-more first partway.0 made earlier in
     subst (λ (changes : List Made). seen.left new since (worlds_since first changes earlier)) (sym partway.1)
     (subst (seen.left new since) (sym more.1) (seen.widened new since more.0 (worlds_since first made earlier) (leaves since earlier left)))
 
--- The calls of a round go on with a part of a script.
-pub part_leaves : {C : Type 0} (seen : CoreSeen C) (old mid new : C) (first : World) (script : List Event) (before later : List PortCall) → First → More → Folds
-    → LeavesMade seen old mid first (after first before).changes → PartCrashes seen mid new first script before later → LeavesScript seen old new first script
-part_leaves seen old mid new first script before later law_first law_more law_folds so_far part =
-    leaves-all seen old new first script later (leaves_on seen old mid new first before later law_first law_more law_folds so_far part.crashes) part.partway
+-- A core that was left alone leaves what it left.
+pub leaves_alone : {C : Type 0} (seen : CoreSeen C) (core : C) (first : World) (script : List Event) → LeavesScript seen core core first script
+unfolding machine
+leaves_alone seen core first script =
+    leaves_script seen core core first script [] (leaves_none seen core first) ((script_machine first script).changes, sym (append-nil (script_machine first script).changes))
 
--- A history that led the machine to where the script does made all of the script's changes.
-pub whole_leaves : {C : Type 0} (seen : CoreSeen C) (old new : C) (first : World) (script : List Event) (calls : List PortCall) → LeavesMade seen old new first (after first calls).changes
-    → after first calls ≡ script_machine first script → LeavesScript seen old new first script
-whole_leaves seen old new first script calls leaves whole = subst (λ (m : Machine). LeavesMade seen old new first m.changes) whole leaves
+-- The calls of a round go on with a part of a script.
+pub part_leaves : {C : Type 0} (seen : CoreSeen C) (old mid new : C) (first : World) (script : List Event) (before : List PortCall) → First → More → Folds
+    → LeavesMade seen old mid first (after first before).changes → PartCrashes seen mid new first script before → LeavesScript seen old new first script
+part_leaves seen old mid new first script before law_first law_more law_folds so_far part =
+    leaves_script seen old new first script part.later (leaves_on seen old mid new first before part.later law_first law_more law_folds so_far part.crashes) part.partway
+
+-- Files that are left alone then leave the same.
+pub leaves_still : {C : Type 0} (seen : CoreSeen C) (old mid new : C) (first : World) (made : List Made) → LeavesMade seen old mid first made → LeavesFiles seen mid new → LeavesMade seen old new first made
+leaves_still seen old mid new first made leaves files since earlier left = files.left since (worlds_since first made earlier) (leaves since earlier left)
 
 -- What is left since one world is left since it by changes.
 pub left_since : {D : Type 0} (told : Told D) (files : Files D) (since : LogMoments) (first : World) (made : List Made) (earlier : List World) → Left told files since (first ∷ earlier)

@@ -1,6 +1,6 @@
 -- What it comes to that the sessions of a script are served from a store.
 use Rattle.std.proofs.Common.{ℕ, ◌≡◌, false, true≢false, List, [], ◌∷◌, refl, sym, ◌∙◌, ap, subst, inl, inr}
-use Rattle.std.specs.Prelude.{Result, Ok, Err, IfOk, IsErr}
+use Rattle.std.specs.Prelude.{Result, Ok, Err, IfOk, IsOkAnd, IsErr}
 use Rattle.disk_model.specs.Told.{Told}
 use Rattle.disk_model.specs.declared.disk.Files.{Files}
 use Rattle.port_model.specs.declared.calls.PortCall.{PortCall}
@@ -80,9 +80,10 @@ pub served_ok : {D E : Type 0} (told : Told D) (script : List Event) (core core'
     → (core_seen told).faults core' ≡ (core_seen told).faults core
     → IfOk printed (λ answer. answer.status ≡ Done) → IfOk printed (λ answer. answer.lines.items ≡ transcript_of last (sent calls)) → ServesStore told script printed core.store core'.store.files
 unfolding core_seen
-served_ok told script core core' calls last (Err error) none settled plays crash same done lines = tt
-served_ok told script core core' calls last (Ok answer) none settled plays crash same done lines = (
-  subst (StoreEnd told script answer.lines.items core.store core'.store.files) (sym done) (
+served_ok told script core core' calls last (Err error) none settled plays crash same done lines =
+    record { ends = tt; leaves = left-store told script core core' none settled crash; quiet = λ starved. none-rose told core core' same }
+served_ok told script core core' calls last (Ok answer) none settled plays crash same done lines = record {
+  ends = subst (StoreEnd told script answer.lines.items core.store core'.store.files) (sym done) (
     (λ first stands.
         let played = plays first (serving told core first none settled stands) in
         let serves : IsServing told core'.store core'.sessions (script_machine first script).shared = played.stands in (
@@ -90,37 +91,42 @@ served_ok told script core core' calls last (Ok answer) none settled plays crash
           record { state = stored_by in_row core'.store.tables; settled = serves.settled; stands = record { content = in_row; contents = refl; stands = serves.stands } },
         )),
     none-rose told core core' same,
-  ),
-  left-store told script core core' none settled crash,
-)
-
--- A call on the store's files failed.
-served_fault : {D E : Type 0} (told : Told D) (script : List Event) (core core' : StoreCore D) (result : Result Answer E) → core.sessions ≡ []
-    → IsSettled told core.store.files (stored_by in_row core.store.tables)
-    → ((first : World) → (core_seen told).stands core (fresh first) → LeavesScript (core_seen told) core core' first script)
-    → SomeRose ((core_seen told).faults core) ((core_seen told).faults core')
-    → IfOk result (λ answer. end_of answer ≡ record { status = StoreFault; lines = [] }) → ServesStore told script result core.store core'.store.files
-served_fault told script core core' (Err error) none settled crash rose is = tt
-served_fault told script core core' (Ok answer) none settled crash rose is = (
-  subst (StoreEnd told script answer.lines.items core.store core'.store.files) (sym (ap (λ (end : End). end.status) is)) (ap (λ (end : End). end.lines) is, some-rose told core core' rose),
-  left-store told script core core' none settled crash,
-)
+  );
+  leaves = left-store told script core core' none settled crash;
+  quiet = λ starved. none-rose told core core' same;
+}
 
 -- A fault of the store is no want of memory.
-store-alone : {T : Type 0} (result : Result T PlayFault) → result ≡ Err PlayStoreFault → result ≡ Err PlayNoMemory → ⊥
-store-alone {T} result is e = let bad : (let told : Result T PlayFault = Err PlayStoreFault in told) ≡ Err PlayNoMemory = sym is ∙ e in cc
+store-alone : {T : Type 0} (result : Result T PlayFault) → result ≡ Err PlayNoMemory → result ≡ Err PlayStoreFault → ⊥
+store-alone {T} result is e = let bad : (let told : Result T PlayFault = Err PlayNoMemory in told) ≡ Err PlayStoreFault = sym is ∙ e in cc
 
 -- The script was not played to its end.
 pub served_err : {D E : Type 0} (told : Told D) (script : List Event) (core core' : StoreCore D) (played : Result Played PlayFault) (fault : PlayFault) (result : Result Answer E) → played ≡ Err fault
     → core.sessions ≡ [] → IsSettled told core.store.files (stored_by in_row core.store.tables)
-    → ((played ≡ Err PlayNoMemory → ⊥) → (first : World) → (core_seen told).stands core (fresh first) → LeavesScript (core_seen told) core core' first script)
+    → ((first : World) → (core_seen told).stands core (fresh first) → LeavesScript (core_seen told) core core' first script)
     → (played ≡ Err PlayStoreFault → SomeRose ((core_seen told).faults core) ((core_seen told).faults core'))
-    → (fault ≡ PlayStoreFault → IfOk result (λ answer. end_of answer ≡ record { status = StoreFault; lines = [] })) → (fault ≡ PlayNoMemory → IsErr result)
+    → ((played ≡ Err PlayStoreFault → ⊥) → (core_seen told).faults core' ≡ (core_seen told).faults core)
+    → (fault ≡ PlayStoreFault → IsOkAnd result (λ answer. end_of answer ≡ record { status = StoreFault; lines = [] })) → (fault ≡ PlayNoMemory → IsErr result)
     → ServesStore told script result core.store core'.store.files
-served_err told script core core' played PlayStoreFault result is none settled crash failed ends no_memory =
-    served_fault told script core core' result none settled (crash (store-alone played is)) (failed is) (ends refl)
-served_err told script core core' played PlayNoMemory (Err error) is none settled crash failed ends no_memory = tt
-served_err told script core core' played PlayNoMemory (Ok answer) is none settled crash failed ends no_memory = absurd (true≢false (sym (no_memory refl)))
+served_err told script core core' played PlayStoreFault (Err error) is none settled crash failed quiet ends no_memory = absurd (ends refl)
+served_err told script core core' played PlayStoreFault (Ok answer) is none settled crash failed quiet ends no_memory =
+    let end = ends refl in
+    record {
+      ends = subst (StoreEnd told script answer.lines.items core.store core'.store.files) (sym (ap (λ (end : End). end.status) end)) (ap (λ (end : End). end.lines) end, some-rose told core core' (failed is));
+      leaves = left-store told script core core' none settled crash;
+      quiet = λ starved. absurd (true≢false (sym starved));
+    }
+served_err told script core core' played PlayNoMemory (Err error) is none settled crash failed quiet ends no_memory =
+    record { ends = tt; leaves = left-store told script core core' none settled crash; quiet = λ starved. none-rose told core core' (quiet (store-alone played is)) }
+served_err told script core core' played PlayNoMemory (Ok answer) is none settled crash failed quiet ends no_memory = absurd (true≢false (sym (no_memory refl)))
+
+-- Memory was refused for the sessions, so that none is served.
+pub store_unserved : {D E : Type 0} (told : Told D) (script : List Event) (error : E) (store : Store D) → ServesStore told script (Err error) store store.files
+store_unserved told script error store = record {
+  ends = tt;
+  leaves = λ world stands since earlier left. left_since told store.files since world (script_machine world script).changes earlier left;
+  quiet = λ starved. (refl, refl, refl);
+}
 
 -- A core over a store that was loaded can be asked.
 pub is_ready : {D : Type 0} (told : Told D) (core : StoreCore D) → core.sessions ≡ [] → core.store.spent ≡ false → core.store.placed ≡ [] → (core_seen told).ready core
@@ -132,48 +138,63 @@ is_ready told core none unspent unplaced = record { unspent = unspent; none_plac
 pub files_served : {D E : Type 0} (told : Told D) (script : List Event) (answer : Result Answer E) (files : Files D) (old : Store D) (files' : Files D)
     → LeaveTheSame told → LoadedStand → MakesAllSure told files old.files → TellsFaults told ⊥ files old.files → IsSettled told old.files (stored_by in_row old.tables)
     → ServesStore told script answer old files' → ServesFiles told script answer files files'
-files_served told script (Err error) files old files' law loaded sure tells settled serves = tt
-files_served told script (Ok answer) files old files' law loaded sure tells settled serves = (by-status answer.status serves.0, leaves)
+files_served {D} {E} told script answer files old files' law loaded sure tells settled serves =
+    record { ends = by-answer answer serves.ends; leaves = leaves; quiet = λ starved. counts-both told files old.files files' quiet (serves.quiet starved) }
   where
     quiet : CountsNoFault told files old.files
     quiet = tells.quiet (λ failed. failed)
 
-    by-status : (s : Status) → StoreEnd told script answer.lines.items old files' s → ServesEnd told script answer.lines.items files files' s
-    by-status Done ends = (if_world told files old _ loaded sure settled ends.0, counts-both told files old.files files' quiet ends.1)
-    by-status StoreFault ends = (ends.0, fault-later told files old.files files' tells.disks ends.1)
-    by-status NotAStore ends = absurd ends
-    by-status Usage ends = ends
-    by-status NoMemory ends = ends
-    by-status ReadFault ends = ends
-    by-status WriteFault ends = ends
-    by-status Refused ends = ends
-    by-status BadScript ends = ends
+    by-status : (lines : List ℕ) (s : Status) → StoreEnd told script lines old files' s → ServesEnd told script lines files files' s
+    by-status lines Done ends = (if_world told files old _ loaded sure settled ends.0, counts-both told files old.files files' quiet ends.1)
+    by-status lines StoreFault ends = (ends.0, fault-later told files old.files files' tells.disks ends.1)
+    by-status lines NotAStore ends = absurd ends
+    by-status lines Usage ends = ends
+    by-status lines NoMemory ends = ends
+    by-status lines ReadFault ends = ends
+    by-status lines WriteFault ends = ends
+    by-status lines Refused ends = ends
+    by-status lines BadScript ends = ends
+
+    by-answer : (answer : Result Answer E) → IfOk answer (λ answer. StoreEnd told script answer.lines.items old files' answer.status) → IfOk answer (λ answer. ServesEnd told script answer.lines.items files files' answer.status)
+    by-answer (Err error) ends = tt
+    by-answer (Ok answer) ends = by-status answer.lines.items answer.status ends
 
     leaves : LeavesChanges told (λ world. (script_machine world script).changes) files files'
     leaves = read-before told files old.files (λ bytes. Holds bytes old.tables (stored_by in_row old.tables).contents)
         (λ bytes. (world : World) → HoldsWorld bytes (world ∷ []) → (since : LogMoments) (earlier : List World) → Left told files since (world ∷ earlier)
         → Left told files' since (worlds_since world (script_machine world script).changes earlier)) sure
-        (λ bytes holds world stands since earlier left. serves.1 world (standing old.tables loaded bytes world holds stands) since earlier (left-sure told files old.files since (world ∷ earlier) law sure left)) settled.holds
+        (λ bytes holds world stands since earlier left. serves.leaves world (standing old.tables loaded bytes world holds stands) since earlier (left-sure told files old.files since (world ∷ earlier) law sure left)) settled.holds
 
 -- Files could not be loaded, so that no session is served.
 pub files_unserved : {D E : Type 0} (told : Told D) (script : List Event) (answer : Result Answer E) (old new : Files D) (fault : LoadFault)
     → LeaveTheSame told → MakesAllSure told old new → TellsFaults told (fault ≡ LoadFailed) old new → (fault ≡ LoadNotAStore → IsNoStore told new)
-    → (fault ≡ LoadNotAStore → IfOk answer (λ answer. end_of answer ≡ record { status = NotAStore; lines = [] }))
-    → (fault ≡ LoadFailed → IfOk answer (λ answer. end_of answer ≡ record { status = StoreFault; lines = [] }))
+    → (fault ≡ LoadNotAStore → IsOkAnd answer (λ answer. end_of answer ≡ record { status = NotAStore; lines = [] }))
+    → (fault ≡ LoadFailed → IsOkAnd answer (λ answer. end_of answer ≡ record { status = StoreFault; lines = [] }))
     → (fault ≡ LoadNoMemory → IsErr answer) → ServesFiles told script answer old new
-files_unserved told script (Err error) old new fault law sure tells none not_a_store failed no_memory = tt
-files_unserved told script (Ok answer) old new fault law sure tells none not_a_store failed no_memory = (by-fault fault refl, leaves)
+files_unserved {D} {E} told script answer old new fault law sure tells none not_a_store failed no_memory = record {
+  ends = by-fault fault answer refl (not_a_store, failed, no_memory);
+  leaves = always-read told old (λ bytes. (world : World) → HoldsWorld bytes (world ∷ []) → (since : LogMoments) (earlier : List World) → Left told old since (world ∷ earlier)
+      → Left told new since (worlds_since world (script_machine world script).changes earlier))
+      (λ bytes world stands since earlier left. left_since told new since world (script_machine world script).changes earlier (left-sure told old new since (world ∷ earlier) law sure left));
+  quiet = λ starved. tells.quiet (λ is. unstarved _ answer starved (failed is));
+}
   where
-    Ends : Status → Type 0
-    Ends s = ServesEnd told script answer.lines.items old new s
+    unstarved : (P : Answer → Type 0) (result : Result Answer E) → IsErr result → IsOkAnd result P → ⊥
+    unstarved P (Ok answer) starved is = true≢false (sym starved)
+    unstarved P (Err error) starved is = is
 
-    by-fault : (f : LoadFault) → fault ≡ f → Ends answer.status
-    by-fault LoadNotAStore is = let its = not_a_store is in subst Ends (sym (ap (λ (end : End). end.status) its))
-        (ap (λ (end : End). end.lines) its, read-before told old new HoldsNone HoldsNone sure (λ bytes no. no) (none is).none, sure, tells.quiet (λ e. cc (e, is)))
-    by-fault LoadFailed is = let its = failed is in subst Ends (sym (ap (λ (end : End). end.status) its)) (ap (λ (end : End). end.lines) its, tells.failed is)
-    by-fault LoadNoMemory is = absurd (true≢false (sym (no_memory is)))
+    Ends : Answer → Type 0
+    Ends answer = ServesEnd told script answer.lines.items old new answer.status
 
-    leaves : LeavesChanges told (λ world. (script_machine world script).changes) old new
-    leaves = always-read told old (λ bytes. (world : World) → HoldsWorld bytes (world ∷ []) → (since : LogMoments) (earlier : List World) → Left told old since (world ∷ earlier)
-        → Left told new since (worlds_since world (script_machine world script).changes earlier))
-        (λ bytes world stands since earlier left. left_since told new since world (script_machine world script).changes earlier (left-sure told old new since (world ∷ earlier) law sure left))
+    at : (answer : Answer) (end : End) → end_of answer ≡ end → ServesEnd told script end.lines old new end.status → Ends answer
+    at answer end is ends = subst (λ (e : End). ServesEnd told script e.lines old new e.status) (sym is) ends
+
+    by-fault : (f : LoadFault) (result : Result Answer E) → fault ≡ f
+        → (fault ≡ LoadNotAStore → IsOkAnd result (λ answer. end_of answer ≡ record { status = NotAStore; lines = [] }))
+        × (fault ≡ LoadFailed → IsOkAnd result (λ answer. end_of answer ≡ record { status = StoreFault; lines = [] })) × (fault ≡ LoadNoMemory → IsErr result)
+        → IfOk result Ends
+    by-fault f (Err error) is how = tt
+    by-fault LoadNotAStore (Ok answer) is how =
+        at answer (record { status = NotAStore; lines = [] }) (how.0 is) (refl, read-before told old new HoldsNone HoldsNone sure (λ bytes no. no) (none is).none, sure, tells.quiet (λ e. cc (e, is)))
+    by-fault LoadFailed (Ok answer) is how = at answer (record { status = StoreFault; lines = [] }) (how.1 is) (refl, tells.failed is)
+    by-fault LoadNoMemory (Ok answer) is how = absurd (true≢false (sym (how.2 is)))

@@ -6,6 +6,7 @@ pub mod Progress
 pub mod Alone
 pub mod Playing
 pub mod Crashing
+pub mod Starving
 pub mod FromStore
 pub mod FromSteps
 pub mod Transfers

@@ -11,7 +11,7 @@ use Rattle.port_model.specs.History.{PortEvent, events, sent, is_closed}
 use Rattle.port_model.specs.Script.{AreEvents}
 use Rattle.imap_steps.specs.Stepping.{World}
 use Rattle.mail_model.specs.Machine.{Machine, Session, machine, after, is_open, session_at}
-use Rattle.mail_rounds.specs.Calls.{Due, Offers, Closes, Asks, Flushes, Takes, RoundsSome, is_kept, is_lost, unsent, due_to, dues}
+use Rattle.mail_rounds.specs.Calls.{Due, Offers, Closes, Asks, Flushes, Takes, RoundsPart, is_kept, is_lost, unsent, due_to, dues}
 use Rattle.mail_server.specs.Script.{script_machine}
 use Rattle.mail_server.specs.Rounds.{left_in, has_loss, reached, PlaysRounds, PlaysBy, PlaysOut}
 use Rattle.mail_server.proofs.Leads.{IsLinked, AreNext, AreNumbered, Leads, IsOn}
@@ -599,19 +599,20 @@ rounds_less first script turns before flushed later had are r flushes takes play
     (rounds_on first script turns before had are r (flush_back first script before flushed flushes (take_back first script flushed later takes plays))).fits some).less
 
 -- A round keeps to the script wherever it ended.
-pub rounds_keep : (first : World) (script : List Event) (turns asked : ℕ) (before later : List PortCall) (had : ℕ → List ℕ) → AreEvents script → PlaysRounds first script turns before had
-    → RoundsSome asked first before later → Plays script later → IsOn first script later
-rounds_keep first script turns asked before later had are r round plays =
+pub rounds_keep : (first : World) (script : List Event) (turns : ℕ) (before later : List PortCall) (had : ℕ → List ℕ) → AreEvents script → PlaysRounds first script turns before had
+    → RoundsPart first before later → Plays script later → IsOn first script later
+rounds_keep first script turns before later had are r round plays =
     let numbers : (script_machine first script).last < 2 ^ 32 = subst (λ (n : ℕ). n < 2 ^ 32) (sym (script-last first script)) are.numbers in
     let flushed = round.flushed in
+    let takes = round.takes.1 in
     let last = (after first flushed).last in
-    let list = take asked (dues first flushed) in
-    let asking = chain_back Asks script (asks_back script) list round.takes.mid later plays round.takes.asks in
-    let played : Plays script flushed = accepts_back script (nat_eq last (2 ^ 32 - 1)) last flushed round.takes.mid asking.0 round.takes.accepts in
+    let list = take round.takes.0 (dues first flushed) in
+    let asking = chain_back Asks script (asks_back script) list takes.mid later plays takes.asks in
+    let played : Plays script flushed = accepts_back script (nat_eq last (2 ^ 32 - 1)) last flushed takes.mid asking.0 takes.accepts in
     let fits = (rounds_on first script turns before had are r (flush_back first script before flushed round.flushes played)).fits in
     let f = flush_on first script before flushed round.flushes played fits in
-    let t = told_accept first script (nat_eq last (2 ^ 32 - 1)) (2 ^ 32 - 1) last flushed round.takes.mid refl (omega arith) round.takes.accepts refl asking.0 f.on in
-    (asks_all first script list round.takes.mid later asking.1 t.on).on
+    let t = told_accept first script (nat_eq last (2 ^ 32 - 1)) (2 ^ 32 - 1) last flushed takes.mid refl (omega arith) takes.accepts refl asking.0 f.on in
+    (asks_all first script list takes.mid later asking.1 t.on).on
 
 -- The rounds are no more than the script has events.
 pub plays_bound : (first : World) (script : List Event) (turns : ℕ) (calls : List PortCall) → AreEvents script → PlaysBy first script turns calls → turns ≤ length script

@@ -242,7 +242,7 @@ pub closes_none : (first : World) (script : List Event) (before : List PortCall)
 closes_none first script before on = record { on = on; shorter = omega arith; same = refl; sent_same = λ who. refl; still = λ who h. h; low = λ was. was }
 
 -- A step closes a link that isn't open, or nothing happens.
-closes-maybe : (standing : Standing) (number : ℕ) (bytes : List ℕ) (before later : List PortCall) → ClosesEmpty standing number bytes before later
+pub closes-maybe : (standing : Standing) (number : ℕ) (bytes : List ℕ) (before later : List PortCall) → ClosesEmpty standing number bytes before later
     → (later ≡ before) ⊎ ((later ≡ Close number ∷ before) × (is_open standing ≡ false))
 closes-maybe Open number bytes before later h = inl h
 closes-maybe Closing number (byte ∷ bytes) before later h = inl h
@@ -298,7 +298,7 @@ read_played script number Quiet reading before p = p
 read_played script number HasEnded reading before p = p
 read_played script number WasLost reading before p = p
 
-reads-maybe : (standing : Standing) (number : ℕ) (bytes : List ℕ) (before later : List PortCall) → AsksIdle standing number bytes before later → (later ≡ before) ⊎ ReadsOnce number before later
+pub reads-maybe : (standing : Standing) (number : ℕ) (bytes : List ℕ) (before later : List PortCall) → AsksIdle standing number bytes before later → (later ≡ before) ⊎ ReadsOnce number before later
 reads-maybe Open number [] before later h = inr h
 reads-maybe Open number (byte ∷ bytes) before later h = inl h
 reads-maybe Closing number bytes before later h = inl h

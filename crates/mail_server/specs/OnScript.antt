@@ -2,6 +2,7 @@
 use Rattle.std.specs.Prelude.{ℕ, ◌≡◌, false, List, ◌∷◌, ◌++◌}
 use Rattle.port_model.specs.declared.calls.PortCall.{PortCall}
 use Rattle.port_model.specs.declared.events.Event.{Event}
+use Rattle.port_model.specs.Playing.{IsPlayed}
 use Rattle.port_model.specs.ScriptPorts.{Scripted}
 use Rattle.imap_steps.specs.Stepping.{World}
 use Rattle.mail_model.specs.Machine.{Made, after}
@@ -20,6 +21,7 @@ pub record IsOnScript {C : Type 0} (seen : CoreSeen C) (first : World) (script :
   pub turns : ℕ
   pub had : ℕ → List ℕ
   pub rounds : PlaysRounds first script turns ports.calls had
+  pub answered : IsPlayed (plan_of script) ports.calls
 
 -- The calls play a script to its end from a world, the last session has this number, and the core stands for what is shared then.
 pub record HasPlayed {C : Type 0} (seen : CoreSeen C) (first : World) (script : List Event) (calls : List PortCall) (last : ℕ) (core : C) : Type 0 where
@@ -39,7 +41,8 @@ LeavesScript seen old new first script = LeavesMade seen old new first (script_m
 abbrev pub IsPartway : World → List Event → List PortCall → Type 0
 IsPartway first script calls = (more : List Made) × ((script_machine first script).changes ≡ more ++ (after first calls).changes)
 
--- A part of a script was served, from one history to another.
-pub record PartCrashes {C : Type 0} (seen : CoreSeen C) (old new : C) (first : World) (script : List Event) (before later : List PortCall) : Type 0 where
+-- A part of a script was served from a history on, to another one by whose end the changes were made that the script makes first.
+pub record PartCrashes {C : Type 0} (seen : CoreSeen C) (old new : C) (first : World) (script : List Event) (before : List PortCall) : Type 0 where
+  pub later : List PortCall
   pub crashes : MachineCrashes seen old new first before later
   pub partway : IsPartway first script later

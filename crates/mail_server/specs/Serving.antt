@@ -1,5 +1,5 @@
 -- What it comes to that the sessions of a script are served from a store.
-use Rattle.std.specs.Prelude.{ℕ, ◌≡◌, List, [], ◌∷◌, Result, IfOk}
+use Rattle.std.specs.Prelude.{ℕ, ◌≡◌, List, [], ◌∷◌, Result, IfOk, IsErr}
 use Rattle.disk_model.specs.Told.{Told}
 use Rattle.disk_model.specs.declared.disk.Files.{Files}
 use Rattle.port_model.specs.declared.events.Event.{Event}
@@ -15,10 +15,11 @@ use Rattle.mail_server.specs.Run.{IsPlayedOut, ServesEnd}
 use Rattle.mail_server.specs.Script.{script_machine}
 use Rattle.mail_server.specs.WorldFiles.{IfStands, LeavesChanges, SettledFor}
 
--- From the store that the files hold, unless memory was refused.
-abbrev pub ServesFiles : {D E : Type 0} → Told D → List Event → Result Answer E → Files D → Files D → Type 0
-ServesFiles told script answer files files' =
-    IfOk answer (λ answer. ServesEnd told script answer.lines.items files files' answer.status × LeavesChanges told (λ world. (script_machine world script).changes) files files')
+-- From the store that the files hold: how it ends, what a crash leaves, and that no call on a file failed where memory was refused.
+pub record ServesFiles {D E : Type 0} (told : Told D) (script : List Event) (answer : Result Answer E) (files files' : Files D) : Type 0 where
+  pub ends : IfOk answer (λ answer. ServesEnd told script answer.lines.items files files' answer.status)
+  pub leaves : LeavesChanges told (λ world. (script_machine world script).changes) files files'
+  pub quiet : IsErr answer → CountsNoFault told files files'
 
 -- How it ends where the store was loaded,
 abbrev pub StoreEnd : {D : Type 0} → Told D → List Event → List ℕ → Store D → Files D → Status → Type 0
@@ -33,9 +34,9 @@ StoreEnd told script lines store files' WriteFault = ⊥
 StoreEnd told script lines store files' Refused = ⊥
 StoreEnd told script lines store files' BadScript = ⊥
 
--- and what it leaves, unless memory was refused.
-abbrev pub ServesStore : {D E : Type 0} → Told D → List Event → Result Answer E → Store D → Files D → Type 0
-ServesStore told script answer store files' =
-    IfOk answer (λ answer. StoreEnd told script answer.lines.items store files' answer.status
-    × IfStands told store (λ world. (since : LogMoments) (earlier : List World) → Left told store.files since (world ∷ earlier)
-    → Left told files' since (worlds_since world (script_machine world script).changes earlier)))
+-- and the same of it.
+pub record ServesStore {D E : Type 0} (told : Told D) (script : List Event) (answer : Result Answer E) (store : Store D) (files' : Files D) : Type 0 where
+  pub ends : IfOk answer (λ answer. StoreEnd told script answer.lines.items store files' answer.status)
+  pub leaves : IfStands told store (λ world. (since : LogMoments) (earlier : List World) → Left told store.files since (world ∷ earlier)
+      → Left told files' since (worlds_since world (script_machine world script).changes earlier))
+  pub quiet : IsErr answer → CountsNoFault told store.files files'

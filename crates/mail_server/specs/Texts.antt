@@ -1,10 +1,11 @@
 -- What the words do that read a text: `script` and `canon`.
-use Rattle.std.specs.Prelude.{ℕ, ◌≡◌, ◌≢◌, ◌⊎◌, List, [], Option, Some, None, Result, Ok, Err, IfSome}
+use Rattle.std.specs.Prelude.{ℕ, ◌≡◌, ◌⊎◌, List, [], Option, Some, None, Result, Ok, Err, IfSome}
 use Rattle.fault_counts.specs.Rose.{Rose}
 use Rattle.disk_model.specs.Told.{Told}
 use Rattle.disk_model.specs.declared.disk.Files.{Files}
 use Rattle.port_model.specs.declared.events.Event.{Event}
 use Rattle.port_model.specs.Script.{script_events}
+use Rattle.row_store.specs.ThreeFiles.{CountsNoFault}
 use Rattle.imap_steps.specs.Stepping.{World}
 use Rattle.mail_model.specs.Machine.{Made}
 use Rattle.mail_server.specs.WorldFiles.{LeavesChanges}
@@ -65,7 +66,7 @@ ScriptEnds tells told Done old new files files' = Answers tells told Script Done
 ScriptEnds tells told BadScript old new files files' = Answers tells told Script BadScript old new files files'
 ScriptEnds tells told NotAStore old new files files' = Answers tells told Script NotAStore old new files files'
 ScriptEnds tells told StoreFault old new files files' = Answers tells told Script StoreFault old new files files'
-ScriptEnds tells told NoMemory old new files files' = WantsMemory tells Script old new
+ScriptEnds tells told NoMemory old new files files' = WantsMemory tells Script old new × CountsNoFault told files files'
 ScriptEnds tells told ReadFault old new files files' = StopsReading tells old new × (files' ≡ files)
 ScriptEnds tells told WriteFault old new files files' = StopsAnswering tells told Script old new files files'
 ScriptEnds tells told Usage old new files files' = ⊥
@@ -85,8 +86,8 @@ pub record RunsScript {S K C D : Type 0} (tells : Tells S K C) (told : Told D) (
   -- However it ends, the source is read no further than the first byte past the longest script, and the clock is left alone.
   pub reads : ReadsText Script (tells.left old.source) (tells.left new.source)
   pub clock : new.clock ≡ old.clock
-  -- However it ends but for want of memory, what a crash leaves of the files stands for the world after some of the script's changes.
-  pub leaves : status ≢ NoMemory → IfSome (tells.left old.source) (λ text. LeavesChanges told (changes_of text) files files')
+  -- However it ends, what a crash leaves of the files stands for the world after some of the script's changes.
+  pub leaves : IfSome (tells.left old.source) (λ text. LeavesChanges told (changes_of text) files files')
 
 -- How the word `canon` ends.
 abbrev pub CanonEnds : {S K C D : Type 0} → Tells S K C → Told D → Status → Outside S K C → Outside S K C → Files D → Files D → Type 0
@@ -112,7 +113,7 @@ abbrev pub AnswersText : {S K C D : Type 0} → Tells S K C → Told D → Task 
 AnswersText tells told Script status old new files files' = RunsScript tells told status old new files files'
 AnswersText tells told Canon status old new files files' = WritesCanonical tells told status old new files files'
 
--- what a text leaves of the files that it is answered from, unless memory is refused
+-- what a text leaves of the files that it is answered from
 abbrev pub LeavesText : {D : Type 0} → Told D → Task → List ℕ → Files D → Files D → Type 0
 LeavesText told Script text files files' = LeavesChanges told (changes_of text) files files'
 LeavesText told Canon text files files' = files' ≡ files

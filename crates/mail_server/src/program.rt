@@ -1,10 +1,11 @@
 //! The words of the program, and what each does.
 
-ghost use Rattle.std.specs.Prelude.{◌≡◌, map, string_bytes, MatchResult, OnOk};
+ghost use Rattle.std.specs.Prelude.{◌≡◌, ◌<◌, map, string_bytes, length, IsErr, MatchResult};
+ghost use Rattle.row_store.specs.ThreeFiles.{CountsNoFault};
 ghost use Rattle.mail_server.specs.declared.status.Status.TheVariants.{Done, NoMemory};
 ghost use Rattle.mail_server.specs.Does.{EndsRun};
 ghost use Rattle.mail_server.specs.Outside.{EndsWriting, outside, tells_of};
-ghost use Rattle.mail_server.specs.Run.{AnswersAt};
+ghost use Rattle.mail_server.specs.Run.{AnswersAt, limit_of};
 ghost use Rattle.mail_server.specs.declared.words.Task.TheVariants.{Canon};
 ghost use Rattle.mail_server.specs.Texts.{AnswersText, LeavesText};
 ghost use Rattle.mail_server.specs.Words.{asked_by};
@@ -115,7 +116,9 @@ fn answer_text<D: Disk, C: Clock>(
     clock: &mut C,
 ) -> (Result<Answer, AllocError>, Files<D>)
     ensures answers { AnswersAt C.readings D.told task text.now result.0 clock.old clock.new files result.1 }
-    ensures leaves { OnOk result.0 (LeavesText D.told task text.now files result.1) }
+    ensures leaves { LeavesText D.told task text.now files result.1 }
+    ensures long { limit_of task < length text.now → result.1 ≡ files }
+    ensures quiet { IsErr result.0 → CountsNoFault D.told files result.1 }
     ensures canon { task ≡ Canon → result.1 ≡ files }
 {
     match task {

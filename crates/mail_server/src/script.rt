@@ -10,8 +10,9 @@ ghost use Rattle.mail_rounds.specs.Held.{held};
 ghost use Rattle.mail_rounds.specs.Serves.{IsGoing, Serves};
 ghost use Rattle.mail_server.specs.declared.script.PlayFault.TheVariants.{NoMemory as PlayNoMemory};
 ghost use Rattle.mail_server.specs.OnScript.{HasPlayed, IsOnScript, LeavesMade, LeavesScript, PartCrashes};
+ghost use Rattle.mail_rounds.specs.Crashes.{MachineCrashes};
 
-use mail_model::changes_stand_by_their_answers;
+use mail_model::{changes_stand_by_their_answers, steps_record_their_changes};
 use mail_rounds::{Core, RoundFault, Server, Unserved, worlds_reach_back};
 use port_model::{Event, ScriptPorts};
 use std::alloc::{AllocError, Global};
@@ -55,10 +56,10 @@ pub(crate) fn play<C: Core>(
     ensures plays { IfOk result.0 (λ played. (first : World) → C.seen.stands core (record { world = first; parts = [] })
         → HasPlayed C.seen first events.items played.ports.calls played.last result.1) }
 
-    // With whatever answer but for want of memory, a crash leaves the world after some of the script's changes.
-    ensures crash { (IsErrOf result.0 PlayNoMemory → ⊥) → (first : World) → C.seen.stands core (record { world = first; parts = [] }) → LeavesScript C.seen core result.1 first events.items }
+    // With whatever answer, a crash leaves the world after some of the script's changes.
+    ensures crash { (first : World) → C.seen.stands core (record { world = first; parts = [] }) → LeavesScript C.seen core result.1 first events.items }
     ensures failed { IsErrOf result.0 PlayFault.StoreFault → SomeRose (C.seen.faults core) (C.seen.faults result.1) }
-    ensures stored { OnOk result.0 (C.seen.faults result.1 ≡ C.seen.faults core) }
+    ensures stored { (IsErrOf result.0 PlayFault.StoreFault → ⊥) → C.seen.faults result.1 ≡ C.seen.faults core }
 {
     match Server::new(alloc, core) {
         Ok(server) => {
@@ -84,10 +85,10 @@ fn play_on<C: Core>(
     ensures recorded { IfOk result (λ played. played.ports.starved ≡ false) }
     ensures plays { IfOk result (λ played. (first : World) → Serves C.seen first [] (held server.old)
         → HasPlayed C.seen first events.items played.ports.calls played.last (held server.new).core) }
-    ensures crash { (IsErrOf result PlayNoMemory → ⊥) → (first : World) → Serves C.seen first [] (held server.old)
+    ensures crash { (first : World) → Serves C.seen first [] (held server.old)
         → LeavesScript C.seen (held server.old).core (held server.new).core first events.items }
     ensures failed { IsErrOf result PlayFault.StoreFault → SomeRose (C.seen.faults (held server.old).core) (C.seen.faults (held server.new).core) }
-    ensures stored { OnOk result (C.seen.faults (held server.new).core ≡ C.seen.faults (held server.old).core) }
+    ensures stored { (IsErrOf result PlayFault.StoreFault → ⊥) → C.seen.faults (held server.new).core ≡ C.seen.faults (held server.old).core }
 {
     worlds_reach_back();
     changes_stand_by_their_answers();
@@ -122,10 +123,10 @@ fn run_rounds<C: Core>(
     ensures going { OnOk result (IsGoing C.seen server.new) }
     ensures made { OnOk result ((first : World) → IsOnScript C.seen first ports.old.plan.events ports.old (held server.old)
         → LeavesMade C.seen (held server.old).core (held server.new).core first (after first ports.new.calls).changes) }
-    ensures crash { OnErr result ((IsErrOf result PlayNoMemory → ⊥) → (first : World) → IsOnScript C.seen first ports.old.plan.events ports.old (held server.old)
+    ensures crash { OnErr result ((first : World) → IsOnScript C.seen first ports.old.plan.events ports.old (held server.old)
         → LeavesScript C.seen (held server.old).core (held server.new).core first ports.old.plan.events) }
     ensures failed { IsErrOf result PlayFault.StoreFault → SomeRose (C.seen.faults (held server.old).core) (C.seen.faults (held server.new).core) }
-    ensures stored { OnOk result (C.seen.faults (held server.new).core ≡ C.seen.faults (held server.old).core) }
+    ensures stored { (IsErrOf result PlayFault.StoreFault → ⊥) → C.seen.faults (held server.new).core ≡ C.seen.faults (held server.old).core }
 {
     worlds_reach_back();
     changes_stand_by_their_answers();
@@ -146,18 +147,25 @@ fn run_round<C: Core>(server: &mut Server<C>, ports: &mut ScriptPorts) -> Result
         × (length (playing ports.new.plan ports.new.calls).left < length (playing ports.old.plan ports.old.calls).left)) }
     ensures plan { ports.new.plan ≡ ports.old.plan }
     ensures going { OnOk result (IsGoing C.seen server.new) }
-    ensures crash { (IsErrOf result PlayNoMemory → ⊥) → (first : World) → IsOnScript C.seen first ports.old.plan.events ports.old (held server.old)
-        → PartCrashes C.seen (held server.old).core (held server.new).core first ports.old.plan.events ports.old.calls ports.new.calls }
+    ensures made { OnOk result ((first : World) → IsOnScript C.seen first ports.old.plan.events ports.old (held server.old)
+        → MachineCrashes C.seen (held server.old).core (held server.new).core first ports.old.calls ports.new.calls) }
+    ensures crash { OnErr result ((first : World) → IsOnScript C.seen first ports.old.plan.events ports.old (held server.old)
+        → PartCrashes C.seen (held server.old).core (held server.new).core first ports.old.plan.events ports.old.calls) }
     ensures failed { IsErrOf result PlayFault.StoreFault → SomeRose (C.seen.faults (held server.old).core) (C.seen.faults (held server.new).core) }
-    ensures stored { OnOk result (C.seen.faults (held server.new).core ≡ C.seen.faults (held server.old).core) }
+    ensures stored { (IsErrOf result PlayFault.StoreFault → ⊥) → C.seen.faults (held server.new).core ≡ C.seen.faults (held server.old).core }
 {
+    steps_record_their_changes();
     let outcome = server.round(ports);
-    if ports.starved() {
-        return Err(PlayFault::NoMemory);
-    }
+    let starved = ports.starved();
     match outcome {
-        Ok(()) => Ok(()),
+        Ok(()) => {
+            if starved {
+                return Err(PlayFault::NoMemory);
+            }
+            Ok(())
+        }
         Err(RoundFault::StoreFault) => Err(PlayFault::StoreFault),
-        Err(RoundFault::ListenFault | RoundFault::NoMemory) => Err(PlayFault::NoMemory),
+        Err(RoundFault::ListenFault) => Err(PlayFault::NoMemory),
+        Err(RoundFault::NoMemory) => Err(PlayFault::NoMemory),
     }
 }

@@ -1,9 +1,10 @@
 //! What a script has written.
 
-ghost use Rattle.std.specs.Prelude.{ℕ, ◌≡◌, IfOk, OnOk};
+ghost use Rattle.std.specs.Prelude.{ℕ, ◌≡◌, ◌<◌, IfOk, IsErr, length};
+ghost use Rattle.row_store.specs.ThreeFiles.{CountsNoFault};
 ghost use Rattle.mail_server.specs.declared.status.Status.TheVariants.{BadScript};
 ghost use Rattle.mail_server.specs.declared.words.Task.TheVariants.{Script};
-ghost use Rattle.mail_server.specs.Run.{EndsAs, bad_line, end_of};
+ghost use Rattle.mail_server.specs.Run.{EndsAs, bad_line, end_of, limit_of};
 ghost use Rattle.mail_server.specs.Texts.{changes_of};
 ghost use Rattle.mail_server.specs.WorldFiles.{LeavesChanges};
 
@@ -24,7 +25,9 @@ pub(crate) fn answer_script<D: Disk>(
     files: Files<D>,
 ) -> (Result<Answer, AllocError>, Files<D>)
     ensures answers { (now : ℕ) → IfOk result.0 (λ answer. EndsAs D.told Script text.now now files result.1 (end_of answer)) }
-    ensures leaves { OnOk result.0 (LeavesChanges D.told (changes_of text.now) files result.1) }
+    ensures leaves { LeavesChanges D.told (changes_of text.now) files result.1 }
+    ensures long { limit_of Script < length text.now → result.1 ≡ files }
+    ensures quiet { IsErr result.0 → CountsNoFault D.told files result.1 }
 {
     if text.len() > MOST_BYTES {
         let line = one_line(alloc, Status::BadScript, b"bad script: too long\n");

@@ -1,6 +1,6 @@
 //! The sessions of a script are served from a store.
 
-ghost use Rattle.std.specs.Prelude.{◌≡◌, false, [], IfOk, IsErr};
+ghost use Rattle.std.specs.Prelude.{◌≡◌, false, [], IsErr, IsOkAnd};
 ghost use Rattle.port_model.specs.Script.{AreEvents};
 ghost use Rattle.row_store.specs.Holding.{in_row, stored_by};
 ghost use Rattle.row_store.specs.Crashes.{IsSettled};
@@ -81,7 +81,7 @@ fn serve_core<D: Disk>(
 
 /// What is to be written where a script was not played to its end.
 fn end_unplayed(alloc: Global, fault: PlayFault) -> Result<Answer, AllocError>
-    ensures failed { fault ≡ PlayFault.StoreFault → IfOk result (λ answer. end_of answer ≡ record { status = Status.StoreFault; lines = [] }) }
+    ensures failed { fault ≡ PlayFault.StoreFault → IsOkAnd result (λ answer. end_of answer ≡ record { status = Status.StoreFault; lines = [] }) }
     ensures no_memory { fault ≡ PlayFault.NoMemory → IsErr result }
 {
     match fault {
@@ -92,8 +92,8 @@ fn end_unplayed(alloc: Global, fault: PlayFault) -> Result<Answer, AllocError>
 
 /// What is to be written where files were not loaded.
 fn end_unloaded(alloc: Global, fault: LoadFault) -> Result<Answer, AllocError>
-    ensures not_a_store { fault ≡ LoadFault.NotAStore → IfOk result (λ answer. end_of answer ≡ record { status = NotAStore; lines = [] }) }
-    ensures failed { fault ≡ LoadFault.Failed → IfOk result (λ answer. end_of answer ≡ record { status = Status.StoreFault; lines = [] }) }
+    ensures not_a_store { fault ≡ LoadFault.NotAStore → IsOkAnd result (λ answer. end_of answer ≡ record { status = NotAStore; lines = [] }) }
+    ensures failed { fault ≡ LoadFault.Failed → IsOkAnd result (λ answer. end_of answer ≡ record { status = Status.StoreFault; lines = [] }) }
     ensures no_memory { fault ≡ LoadFault.NoMemory → IsErr result }
 {
     match fault {

@@ -1,22 +1,35 @@
 use Rattle.std.proofs.Common.{◌≡◌, false, sym, ◌∙◌}
 use Rattle.mail_rounds.specs.Held.{held}
-use Rattle.mail_server.proofs.Playing.{round_crashes, round_goes_on}
+use Rattle.mail_server.proofs.Playing.{begun_crashes, done_crashes, round_goes_on, round_made}
 use Rattle.mail_server.proofs.script.run_round.Goals as goal
 
-pub returns-in-Ok-clause-on_script : goal.returns-in-Ok-clause-on_script
-returns-in-Ok-clause-on_script g c first on some =
-    let told : c.round-outcome.new.ports.starved ≡ false = sym c.starved.ensures.starved ∙ c.if-starved.false in
+pub returns-else-starved-clause-on_script : goal.returns-else-starved-clause-on_script
+returns-else-starved-clause-on_script g c first on some =
+    let told : c.round-outcome.new.ports.starved ≡ false = sym c.starved-starved.ensures.starved ∙ c.if-starved.false in
     round_goes_on g.C.Core.seen first c.args.ports.now.plan.events c.args.ports.now c.round-outcome.new.ports (held c.args.server.now) (held c.round-outcome.new.self) c.requires.kept
-    c.in-Ok.ensures.calls c.in-Ok.ensures.keeps c.round-outcome.ensures.plan told (c.starved.ensures.answers told) on some
+    c.in-Ok.ensures.done c.round-outcome.ensures.plan told (c.starved-starved.ensures.answers told) on some
 
-pub returns-in-Ok-clause-crash : goal.returns-in-Ok-clause-crash
-returns-in-Ok-clause-crash g c other first on =
-    let told : c.round-outcome.new.ports.starved ≡ false = sym c.starved.ensures.starved ∙ c.if-starved.false in
-    round_crashes g.C.Core.seen first c.args.ports.now.plan.events c.round-outcome.ensures.part.0 c.args.ports.now c.round-outcome.new.ports (held c.args.server.now) c.round-outcome.new.self.core c.requires.kept
-    c.round-outcome.ensures.part.1 c.round-outcome.ensures.crash c.round-outcome.ensures.plan told (c.starved.ensures.answers told) on
+pub returns-else-starved-clause-made : goal.returns-else-starved-clause-made
+returns-else-starved-clause-made g c first on =
+    round_made g.C.Core.seen first c.args.ports.now.plan.events c.args.ports.now c.round-outcome.new.ports (held c.args.server.now) (held c.round-outcome.new.self) c.in-Ok.ensures.done (sym c.starved-starved.ensures.starved ∙ c.if-starved.false) on
+
+-- The record of a call found no memory.
+pub returns-then-starved-clause-crash : goal.returns-then-starved-clause-crash
+returns-then-starved-clause-crash g c first on =
+    done_crashes g.C.Core.seen first c.args.ports.now.plan.events c.args.ports.now c.round-outcome.new.ports (held c.args.server.now) (held c.round-outcome.new.self) c.steps_record_their_changes.ensures.left c.requires.kept
+    c.in-Ok.ensures.done c.round-outcome.ensures.plan c.starved-starved.ensures.answers on
 
 pub returns-in-Err-StoreFault-clause-crash : goal.returns-in-Err-StoreFault-clause-crash
-returns-in-Err-StoreFault-clause-crash g c other first on =
-    let told : c.round-outcome.new.ports.starved ≡ false = sym c.starved.ensures.starved ∙ c.if-starved.false in
-    round_crashes g.C.Core.seen first c.args.ports.now.plan.events c.round-outcome.ensures.part.0 c.args.ports.now c.round-outcome.new.ports (held c.args.server.now) c.round-outcome.new.self.core c.requires.kept
-    c.round-outcome.ensures.part.1 c.round-outcome.ensures.crash c.round-outcome.ensures.plan told (c.starved.ensures.answers told) on
+returns-in-Err-StoreFault-clause-crash g c first on =
+    begun_crashes g.C.Core.seen first c.args.ports.now.plan.events c.args.ports.now c.round-outcome.new.ports (held c.args.server.now) (held c.round-outcome.new.self) c.steps_record_their_changes.ensures.left c.requires.kept
+    (rw c.in-Err-StoreFault.is at c.round-outcome.ensures.part) c.round-outcome.ensures.plan c.starved-starved.ensures.answers on
+
+pub returns-in-Err-ListenFault-clause-crash : goal.returns-in-Err-ListenFault-clause-crash
+returns-in-Err-ListenFault-clause-crash g c first on =
+    begun_crashes g.C.Core.seen first c.args.ports.now.plan.events c.args.ports.now c.round-outcome.new.ports (held c.args.server.now) (held c.round-outcome.new.self) c.steps_record_their_changes.ensures.left c.requires.kept
+    (rw c.in-Err-ListenFault.is at c.round-outcome.ensures.part) c.round-outcome.ensures.plan c.starved-starved.ensures.answers on
+
+pub returns-in-Err-NoMemory-clause-crash : goal.returns-in-Err-NoMemory-clause-crash
+returns-in-Err-NoMemory-clause-crash g c first on =
+    begun_crashes g.C.Core.seen first c.args.ports.now.plan.events c.args.ports.now c.round-outcome.new.ports (held c.args.server.now) (held c.round-outcome.new.self) c.steps_record_their_changes.ensures.left c.requires.kept
+    (rw c.in-Err-NoMemory.is at c.round-outcome.ensures.part) c.round-outcome.ensures.plan c.starved-starved.ensures.answers on

@@ -3,10 +3,11 @@ use Rattle.port_model.specs.declared.calls.PortCall.{PortCall}
 use Rattle.port_model.specs.declared.events.Event.{Event}
 use Rattle.port_model.specs.Playing.{Plan, playing}
 use Rattle.mail_model.specs.Machine.{after}
+use Rattle.mail_rounds.specs.Crashes.{MachineCrashes}
 use Rattle.mail_rounds.specs.Held.{held}
 use Rattle.mail_server.specs.OnScript.{IsOnScript, LeavesMade, PartCrashes}
 use Rattle.mail_server.proofs.Crashing.{leaves_none, leaves_on, part_leaves}
-use Rattle.mail_server.proofs.Playing.{none-left, told_on}
+use Rattle.mail_server.proofs.Playing.{none-left}
 use Rattle.mail_server.proofs.Transfers.{OnErr-always}
 use Rattle.mail_server.proofs.script.run_rounds.Goals as goal
 
@@ -40,12 +41,12 @@ rounds-preserved g c =
           (c.in_ok-run_round.ensures.on_script first) so_far.0 (some first so_far.0) in
           (step.0, omega (arith, step.1, so_far.1));
       leaves = λ first on.
-          let part = subst (λ (script : List Event). IsOnScript g.C.Core.seen first script c.rounds.ports (held c.rounds.server)
-          → PartCrashes g.C.Core.seen (held c.rounds.server).core (held c.run_round.new.server).core first script c.rounds.ports.calls c.run_round.new.ports.calls) its
-          (c.in_ok-run_round.ensures.crash (λ e. cc) first) (inv.on_script first on).0 in
+          let made = subst (λ (script : List Event). IsOnScript g.C.Core.seen first script c.rounds.ports (held c.rounds.server)
+          → MachineCrashes g.C.Core.seen (held c.rounds.server).core (held c.run_round.new.server).core first c.rounds.ports.calls c.run_round.new.ports.calls) its
+          (c.in_ok-run_round.ensures.made first) (inv.on_script first on).0 in
           leaves_on g.C.Core.seen (held c.args.server.now).core (held c.rounds.server).core (held c.run_round.new.server).core first c.rounds.ports.calls c.run_round.new.ports.calls
-          c.worlds_reach_back.ensures.first c.worlds_reach_back.ensures.more c.changes_stand_by_their_answers.ensures.world (inv.leaves first on) part.crashes;
-      stored = c.in_ok-run_round.ensures.stored ∙ inv.stored;
+          c.worlds_reach_back.ensures.first c.worlds_reach_back.ensures.more c.changes_stand_by_their_answers.ensures.world (inv.leaves first on) made;
+      stored = c.in_ok-run_round.ensures.stored (λ e. cc) ∙ inv.stored;
     }
 
 pub returns-after-rounds-clause-done : goal.returns-after-rounds-clause-done
@@ -54,11 +55,11 @@ returns-after-rounds-clause-done g c first on =
 
 pub returns-in_err-run_round-clause-crash : goal.returns-in_err-run_round-clause-crash
 returns-in_err-run_round-clause-crash g c =
-    OnErr-always c.from_residual.result _ (λ other first on.
+    OnErr-always c.from_residual.result _ (λ first on.
     let inv = c.rounds.invariant in
     let its : c.rounds.ports.plan.events ≡ c.args.ports.now.plan.events = ap (λ (p : Plan). p.events) inv.plan in
     let part = subst (λ (script : List Event). IsOnScript g.C.Core.seen first script c.rounds.ports (held c.rounds.server)
-    → PartCrashes g.C.Core.seen (held c.rounds.server).core (held c.run_round.new.server).core first script c.rounds.ports.calls c.run_round.new.ports.calls) its
-    (c.in_err-run_round.ensures.crash (λ e. other (told_on c.from_residual.result c.in_err-run_round.field-0.0 _ c.from_residual.ensures.1 e)) first) (inv.on_script first on).0 in
-    part_leaves g.C.Core.seen (held c.args.server.now).core (held c.rounds.server).core (held c.run_round.new.server).core first c.args.ports.now.plan.events c.rounds.ports.calls c.run_round.new.ports.calls
+    → PartCrashes g.C.Core.seen (held c.rounds.server).core (held c.run_round.new.server).core first script c.rounds.ports.calls) its
+    (c.in_err-run_round.ensures.crash first) (inv.on_script first on).0 in
+    part_leaves g.C.Core.seen (held c.args.server.now).core (held c.rounds.server).core (held c.run_round.new.server).core first c.args.ports.now.plan.events c.rounds.ports.calls
     c.worlds_reach_back.ensures.first c.worlds_reach_back.ensures.more c.changes_stand_by_their_answers.ensures.world (inv.leaves first on) part)

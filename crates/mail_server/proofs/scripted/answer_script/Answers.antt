@@ -20,7 +20,7 @@ returns-then-text-gt-MOST_BYTES-clause-answers g c now =
     (λ end. ends-long g.D.Disk.told Script c.args.text.now now c.args.files end c.if-text-gt-MOST_BYTES.true) c.one_line-line.ensures
 
 pub returns-then-text-gt-MOST_BYTES-clause-leaves : goal.returns-then-text-gt-MOST_BYTES-clause-leaves
-returns-then-text-gt-MOST_BYTES-clause-leaves g c = left-always g.D.Disk.told Script c.args.text.now c.args.files c.one_line-line.result
+returns-then-text-gt-MOST_BYTES-clause-leaves g c = left-always g.D.Disk.told Script c.args.text.now c.args.files
 
 pub returns-in-Ok-clause-answers : goal.returns-in-Ok-clause-answers
 returns-in-Ok-clause-answers g c now =
@@ -36,4 +36,10 @@ returns-in-Err-BadLine-clause-answers g c now =
     (subst (λ (said : Result (List Event) ℕ). EventsEnd g.D.Disk.told said c.args.files c.args.files end) (sym (c.in-Err-BadLine.ensures.bad_line c.in-Err-BadLine.number (ap Err c.in-Err-BadLine.field-0-is))) (is, refl))) c.name_bad_line.ensures
 
 pub returns-in-Err-BadLine-clause-leaves : goal.returns-in-Err-BadLine-clause-leaves
-returns-in-Err-BadLine-clause-leaves g c = left-always g.D.Disk.told Script c.args.text.now c.args.files c.name_bad_line.result
+returns-in-Err-BadLine-clause-leaves g c = left-always g.D.Disk.told Script c.args.text.now c.args.files
+
+pub returns-in-Err-NoMemory-clause-leaves : goal.returns-in-Err-NoMemory-clause-leaves
+returns-in-Err-NoMemory-clause-leaves g c = left-always g.D.Disk.told Script c.args.text.now c.args.files
+
+pub returns-in-Ok-clause-quiet : goal.returns-in-Ok-clause-quiet
+returns-in-Ok-clause-quiet g c = c.serve_files.ensures.quiet
