@@ -31,7 +31,7 @@ use Rattle.mail_server.specs.Texts.{LeavesText, changes_in, changes_of}
 use Rattle.mail_server.specs.Serving.{ServesFiles}
 use Rattle.mail_server.proofs.StoreFiles.{always-read}
 use Rattle.mail_server.proofs.Crashing.{left_since}
-use Rattle.mail_server.proofs.Readings.{canon-ends, ends-read, ends-short, long-ends, read-same, short-done}
+use Rattle.mail_server.proofs.Readings.{canon-ends, ends-read, ends-short, read-same, short-done}
 
 -- The statuses that texts give
 

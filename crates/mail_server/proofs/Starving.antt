@@ -2,7 +2,7 @@
 -- ones of the script.
 use Rattle.std.proofs.Common.{ℕ, zero, suc, ◌+◌, ◌-◌, ◌^◌, nat_eq, Bool, true, false, List, [], ◌∷◌, ◌++◌, Option, Some, None, map, length, take, ◌≡◌, refl, ap, sym, ◌∙◌, subst, inl, inr, ◌⊎◌}
 use Rattle.port_model.specs.declared.calls.PortCall.{PortCall}
-use Rattle.port_model.specs.declared.calls.PortCall.TheVariants.{Accept, Read, Now, Send, Close}
+use Rattle.port_model.specs.declared.calls.PortCall.TheVariants.{Accept, Read, Send, Close}
 use Rattle.port_model.specs.declared.calls.PortSend.{PortSend}
 use Rattle.port_model.specs.declared.calls.PortSend.TheVariants.{Took, Lost as SendLost}
 use Rattle.port_model.specs.declared.calls.ReadAnswer.{ReadAnswer}
