@@ -1,0 +1,4 @@
+mod Examples
+pub mod Matching
+pub mod Sets
+pub mod Levels
