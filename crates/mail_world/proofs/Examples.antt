@@ -11,6 +11,7 @@ use Rattle.mime_tree.specs.Trees.Content.{leaf}
 use Rattle.mail_world.specs.Names.{is_mailbox_name, created_name, is_user_name}
 use Rattle.mail_world.specs.Flags.{distinct}
 use Rattle.mail_world.specs.Worlds.{World, Mailbox, no_world, mailbox_at}
+use Rattle.mail_world.specs.Listing.{names_of}
 use Rattle.mail_world.specs.Changes.{Change, AddUser, Create, Delete, Rename, Subscribe, Unsubscribe, Append, Deliver, Copy, StoreFlags, Expunge, TakeRecents, BadName, Absent, Exists, InUse, Full, NoUid}
 use Rattle.mail_world.specs.Applying.{apply, refused}
 
@@ -131,3 +132,9 @@ subscriptions : (map {B = ℕ × List ℕ} (λ s. (s.owner, s.name)) ((made (fir
     × (refused (made first_changes) (Subscribe 1 (codes "x")) ≡ Some Absent) × (refused (made first_changes) (Unsubscribe 1 (codes "INBOX")) ≡ Some Absent)
 unfolding apply refused is_mailbox_name created_name
 subscriptions = (refl, refl, refl)
+
+-- Mailboxes are listed by their bytes, whenever they were made; of a mailbox that is gone the subscription is.
+listings : (names_of false 1 (made (first_changes ++ Create 1 (codes "b") ∷ Create 1 (codes "a/b") ∷ [])) ≡ codes "INBOX" ∷ codes "b" ∷ codes "a/b" ∷ [])
+    × (names_of true 1 (made (first_changes ++ Create 1 (codes "x") ∷ Subscribe 1 (codes "x") ∷ Delete 1 (codes "x") [] ∷ [])) ≡ codes "x" ∷ []) × (names_of true 2 (made (first_changes ++ Subscribe 1 (codes "inbox") ∷ [])) ≡ [])
+unfolding apply refused is_mailbox_name created_name
+listings = (refl, refl, refl)

@@ -7,6 +7,7 @@ pub mod Summaries
 pub mod Changes
 pub mod Users
 pub mod Subscriptions
+pub mod Listing
 pub mod Arrivals
 pub mod Storing
 pub mod Renaming

@@ -1,29 +1,9 @@
--- Names of users and of mailboxes (RFC 3501 §5.1).
-use Rattle.std.specs.Prelude.{ℕ, ◌++◌, ◌==◌, ◌&&◌, ◌||◌, ◌-◌, Bool, not, nat_eq, nat_le, if◌then◌else◌, List, [], ◌∷◌, length, take, drop, codes}
+-- Names of users and of mailboxes (RFC 3501 §5.1). What INBOX is, and what stands between levels, is said beside patterns of names.
+use Rattle.std.specs.Prelude.{ℕ, ◌++◌, ◌==◌, ◌&&◌, ◌||◌, ◌-◌, Bool, not, nat_eq, nat_le, if◌then◌else◌, List, [], ◌∷◌, length, take, drop}
 use Rattle.std.specs.List.{list_all, starts_with, ends_with, slice_split}
-use Rattle.std.specs.Cmp.Lexicographic.{pointwise}
 use Rattle.std.specs.Char.{is_ascii_digit}
-use Rattle.std.specs.Str.{byte, str_eq_ignore_ascii_case}
-
--- whether two names are the same, byte by byte
-abbrev pub same_name : List ℕ → List ℕ → Bool
-same_name a b = pointwise nat_eq a b
-
--- The mailbox that every user has (RFC 3501 §5.1).
-abbrev pub inbox : List ℕ
-inbox = codes "INBOX"
-
--- Its name is written in any case.
-abbrev pub is_inbox : List ℕ → Bool
-is_inbox name = str_eq_ignore_ascii_case name inbox
-
--- the name of the mailbox that a text names
-abbrev pub mailbox_name : List ℕ → List ℕ
-mailbox_name text = if is_inbox text then inbox else text
-
--- what stands between the levels of a name (RFC 3501 §5.1.1)
-abbrev pub separator : ℕ
-separator = byte "/"
+use Rattle.std.specs.Str.{byte}
+pub use Rattle.mailbox_names.specs.Names.{same_name, inbox, is_inbox, mailbox_name, separator}
 
 -- a byte of a name: printed ASCII, but for the wildcards of LIST
 abbrev pub is_name_byte : ℕ → Bool

@@ -15,7 +15,7 @@ use Rattle.mailbox_names.proofs.Sets.{any_map, are_ordered}
 
 -- ---- levels of a front
 
-abbrev here : Bool → List ℕ → List (List ℕ)
+abbrev pub here : Bool → List ℕ → List (List ℕ)
 here b front = if b then front ∷ [] else []
 
 here_behind : (a : ℕ) (b : Bool) (front : List ℕ) → map (λ level. a ∷ level) (here b front) ≡ here b (a ∷ front)
@@ -57,6 +57,14 @@ level_longer front text b =
 
 -- ---- what is found
 
+-- a level that isn't INBOX is as it is
+pub kept_as : (level : List ℕ) → same_name (mailbox_name level) inbox ≡ false → mailbox_name level ≡ level
+kept_as level other = by (is_inbox level) refl
+  where
+    by : (b : Bool) → is_inbox level ≡ b → mailbox_name level ≡ level
+    by true e = absurd (false≢true (sym other ∙ rw e refl))
+    by false e = rw e refl
+
 -- a text that is found is what the pattern finds
 module _ (pattern : List ℕ) (matched finds_inbox : Bool) (found : finds_inbox ≡ finds pattern inbox) where
   found_is : (text : List ℕ) → (same_name text inbox ≡ false → matched ≡ matches pattern text) → found_if matched finds_inbox text ≡ finds pattern text
@@ -65,13 +73,6 @@ module _ (pattern : List ℕ) (matched finds_inbox : Bool) (found : finds_inbox 
       by : (b : Bool) → same_name text inbox ≡ b → found_if matched finds_inbox text ≡ finds pattern text
       by true e = rw e (found ∙ ap (finds pattern) (sym ((bytes_decides text inbox).0 e)) ∙ rw e refl)
       by false e = rw e (matches_is e)
-
-  kept_as : (level : List ℕ) → same_name (mailbox_name level) inbox ≡ false → mailbox_name level ≡ level
-  kept_as level other = by (is_inbox level) refl
-    where
-      by : (b : Bool) → is_inbox level ≡ b → mailbox_name level ≡ level
-      by true e = absurd (false≢true (sym other ∙ rw e refl))
-      by false e = rw e refl
 
   pub level_found : (level : List ℕ) → matched ≡ matches pattern level → found_if matched finds_inbox (mailbox_name level) ≡ finds pattern (mailbox_name level)
   level_found level matches_is = found_is (mailbox_name level) (λ other. matches_is ∙ ap (matches pattern) (sym (kept_as level other)))
@@ -143,7 +144,7 @@ name_given pattern name fronts finds_inbox levels found wanted are before betwee
 
 -- ---- what a pattern finds among names
 
-any_filter : {X : Type 0} (p q : X → Bool) (xs : List X) → list_any p (filter q xs) ≡ list_any (λ x. q x && p x) xs
+pub any_filter : {X : Type 0} (p q : X → Bool) (xs : List X) → list_any p (filter q xs) ≡ list_any (λ x. q x && p x) xs
 any_filter p q [] = refl
 any_filter p q (x ∷ xs) = by (q x) (any_filter p q xs)
   where
@@ -156,7 +157,7 @@ any_flat p f [] = refl
 any_flat p f (x ∷ xs) = list_any-append p (f x) (flat_map f xs) ∙ ap (λ b. list_any p (f x) || b) (any_flat p f xs)
 
 -- what passes both tests, where the first is the same for all that pass the second
-any_found : (pattern text : List ℕ) (texts : List (List ℕ)) → list_any (λ t. finds pattern t && same_name t text) texts ≡ (finds pattern text && has_name text texts)
+pub any_found : (pattern text : List ℕ) (texts : List (List ℕ)) → list_any (λ t. finds pattern t && same_name t text) texts ≡ (finds pattern text && has_name text texts)
 any_found pattern text [] = none (finds pattern text)
   where
     none : (b : Bool) → false ≡ (b && false)

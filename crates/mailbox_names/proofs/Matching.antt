@@ -1,6 +1,8 @@
 -- What a row of fronts says of the rest of a pattern.
 use Rattle.std.proofs.Common.{◌≡◌, ℕ, zero, suc, ◌+◌, ◌<◌, ◌≤◌, ◌==◌, ◌&&◌, ◌||◌, Bool, true, false, List, [], ◌∷◌, ◌++◌, length, get_or, replicate, take, drop, drop-cons, add-one, subst, refl, sym, ap, ◌∙◌, arith}
 use Rattle.mailbox_names.specs.Patterns.{is_wildcard, takes, matches}
+use Rattle.std.specs.List.{list_any}
+use Rattle.std.proofs.lemmas.Bool.{true≢false}
 use Rattle.std.proofs.lemmas.List.{take-append-drop, drop_all, length-take-le, length-replicate}
 use Rattle.mailbox_names.specs.Fronts.{AreFronts}
 use Rattle.mailbox_names.specs.Rows.{carried, stepped}
@@ -154,3 +156,23 @@ says_last pattern name row says = record {
 
 pub says_all : (pattern name : List ℕ) (i : ℕ) (row : List Bool) → length pattern ≤ i → Says pattern (drop i pattern) name row → AreFronts pattern name row
 says_all pattern name i row all says = says_last pattern name row (subst (λ l. Says pattern l name row) (drop_all i pattern all) says)
+
+-- ---- a row in which nothing is matched any more
+
+none_live : (rest : List ℕ) (row : List Bool) (name : List ℕ) → list_any (λ was. was) row ≡ false → reached rest row name ≡ false
+none_live rest [] name none = refl
+none_live rest (false ∷ row) [] none = refl
+none_live rest (false ∷ row) (b ∷ name) none = none_live rest row name none
+none_live rest (true ∷ row) name none = absurd (true≢false none)
+
+none_at : (row : List Bool) (i : ℕ) → list_any (λ was. was) row ≡ false → get_or row i false ≡ false
+none_at [] i none = refl
+none_at (false ∷ row) zero none = refl
+none_at (false ∷ row) (suc i) none = none_at row i none
+none_at (true ∷ row) i none = absurd (true≢false none)
+
+pub says_dead : (pattern rest name : List ℕ) (row : List Bool) → list_any (λ was. was) row ≡ false → Says pattern rest name row → AreFronts pattern name row
+says_dead pattern rest name row none says = record {
+  count = says.count;
+  each = λ i few. none_at row i none ∙ (sym (none_live rest row (take i name) none) ∙ says.each i few);
+}

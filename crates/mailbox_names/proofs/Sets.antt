@@ -79,12 +79,12 @@ module _ {K : Type 0} (R : K → K → Ordering) (total : IsTotalOrder R) where
 abbrev pub Sorted : List (List ℕ) → Type 0
 Sorted names = IsStrictlySortedBy (slice_cmp nat_cmp) names
 
-ordered : (names : List (List ℕ)) → Sorted (in_order names)
+pub ordered : (names : List (List ℕ)) → Sorted (in_order names)
 unfolding IsStrictlySortedBy
 ordered [] = tt
 ordered (name ∷ names) = sorted_inserted (slice_cmp nat_cmp) nat_list_cmp_total (in_order names) name (ordered names)
 
-ordered_has : (text : List ℕ) (names : List (List ℕ)) → has_name text (in_order names) ≡ has_name text names
+pub ordered_has : (text : List ℕ) (names : List (List ℕ)) → has_name text (in_order names) ≡ has_name text names
 ordered_has text [] = refl
 ordered_has text (name ∷ names) =
     any_inserted (slice_cmp nat_cmp) (λ n. same_name n text) (λ x y e. ap (λ n. same_name n text) (exact_bytes x y e)) (in_order names) name
@@ -97,7 +97,7 @@ pub found_as : (text : List ℕ) (names : List (List ℕ)) → list_any (λ n. i
 found_as text [] = refl
 found_as text (name ∷ names) = ap (λ b. b || list_any (λ n. is_eq (slice_cmp nat_cmp text n)) names) (is_eq-slice_cmp text name ∙ same_flipped text name) ∙ ap (λ b. same_name name text || b) (found_as text names)
 
-same_names : (a b : List (List ℕ)) → Sorted a → Sorted b → ((text : List ℕ) → has_name text a ≡ has_name text b) → a ≡ b
+pub same_names : (a b : List (List ℕ)) → Sorted a → Sorted b → ((text : List ℕ) → has_name text a ≡ has_name text b) → a ≡ b
 same_names a b up over same =
     btree_set_from_contains nat_list_cmp_total (record { keys = a }) (record { keys = b }) up over (λ text. found_as text a ∙ (same text ∙ sym (found_as text b))) exact_bytes
 

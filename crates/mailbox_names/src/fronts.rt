@@ -1,15 +1,17 @@
 //! Which fronts of a name a pattern matches.
 
 ghost use Rattle.std.specs.Prelude.{◌≡◌, ◌+◌, ◌==◌, ◌&&◌, ◌||◌, ◌∷◌, length, not, true, false, replicate, IfOk};
+ghost use Rattle.std.specs.List.{list_any};
 ghost use Rattle.std.specs.Str.{byte};
 ghost use Rattle.mailbox_names.specs.Patterns.{is_wildcard, takes};
 ghost use Rattle.mailbox_names.specs.Fronts.{AreFronts};
 ghost use Rattle.mailbox_names.specs.Rows.{carried, entered, stepped};
 
+use crate::patterns::is_wildcard;
 use std::alloc::{AllocError, Global};
 
 /// For each front of a name, from the empty one on, whether a pattern matches it: at place `i` that of `i` bytes. Goes over the name
-/// once for each byte of the pattern.
+/// at most once for each byte of the pattern.
 pub fn matched_fronts(alloc: Global, pattern: &[u8], name: &[u8]) -> Result<Vec<bool>, AllocError>
     ensures { IfOk result (λ fronts. AreFronts pattern.now name.now fronts.items) }
 {
@@ -25,7 +27,17 @@ fn steps(row: &mut [bool], pattern: &[u8], name: &[u8])
 {
     'pattern: for p in pattern {
         step(row, *p, name);
+        if !is_live(row) {
+            return;
+        }
     }
+}
+
+// Whether a front is matched: no longer pattern matches any other.
+fn is_live(row: &[bool]) -> bool
+    ensures { result ≡ list_any (λ was. was) row.now }
+{
+    row.iter().any(|was| *was)
 }
 
 // The row of the empty pattern, which matches the empty front alone.
@@ -67,12 +79,6 @@ fn carried(p: u8, carry: bool, was: bool, b: u8) -> bool
     } else {
         was && b == p
     }
-}
-
-fn is_wildcard(p: u8) -> bool
-    ensures { result ≡ is_wildcard p }
-{
-    p == b'*' || p == b'%'
 }
 
 fn takes(p: u8, b: u8) -> bool

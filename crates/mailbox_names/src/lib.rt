@@ -5,8 +5,11 @@ mod fronts;
 mod listed;
 mod listing;
 mod names;
+mod parts;
+mod patterns;
 
 pub use fronts::matched_fronts;
 pub use listed::Listed;
 pub use listing::list;
 pub use names::mailbox_name;
+pub use parts::needed_front;

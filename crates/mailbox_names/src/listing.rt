@@ -46,7 +46,7 @@ fn add<'a>(found: &mut BTreeSet<&'a [u8]>, text: &'a [u8]) -> Result<(), AllocEr
 }
 
 // Whether a pattern finds INBOX, in any case.
-fn finds_inbox(alloc: Global, pattern: &[u8]) -> Result<bool, AllocError>
+pub(crate) fn finds_inbox(alloc: Global, pattern: &[u8]) -> Result<bool, AllocError>
     ensures { IfOk result (λ found. found ≡ finds pattern.now inbox) }
 {
     let pattern = uppercase(alloc, pattern)?;
@@ -60,7 +60,7 @@ fn uppercase(alloc: Global, text: &[u8]) -> Result<Vec<u8>, AllocError>
     text.iter().map(|b| b.to_ascii_uppercase()).collect(alloc)
 }
 
-fn wants_levels(pattern: &[u8]) -> bool
+pub(crate) fn wants_levels(pattern: &[u8]) -> bool
     ensures { result ≡ wants_levels pattern.now }
 {
     pattern.ends_with(b"%")
