@@ -6,14 +6,17 @@ use Rattle.imap_grammar.specs.Classes.{is_atom_byte}
 use Rattle.imap_grammar.specs.declared.flags.Flag.{Flag}
 use Rattle.imap_grammar.specs.declared.flags.Flag.TheVariants.{Flagged, Seen, Keyword}
 use Rattle.imap_grammar.specs.declared.commands.Command.{Command}
-use Rattle.imap_grammar.specs.declared.commands.Command.TheVariants.{Check, Close, Login, Select, Create, Append, Noop}
+use Rattle.imap_grammar.specs.declared.commands.Command.TheVariants.{Check, Close, Login, Select, Create, List as ListNames, Append, Noop}
 use Rattle.imap_writer.specs.Tagged.{ok_line, no_line}
 use Rattle.imap_writer.specs.Flags.{flag_list_of}
-use Rattle.imap_writer.specs.Lines.{exists_line, recent_line, flags_line, unseen_line, permanent_line, uidnext_line, uidvalidity_line}
+use Rattle.imap_writer.specs.Texts.{text_of}
+use Rattle.imap_writer.specs.Lines.{list_line, exists_line, recent_line, flags_line, unseen_line, permanent_line, uidnext_line, uidvalidity_line}
 use Rattle.transfer_codec.specs.Base64.{decoded, letters, bits}
 use Rattle.session_view.specs.declared.sessions.State.{State}
 use Rattle.session_view.specs.declared.sessions.State.TheVariants.{Fresh, Known, Selected}
 use Rattle.session_view.specs.Parts.{state_of}
+use Rattle.mailbox_names.specs.Patterns.{matches}
+use Rattle.mailbox_names.specs.Listing.{listed}
 use Rattle.mail_world.specs.Names.{inbox, is_mailbox_name, created_name}
 use Rattle.mail_world.specs.Worlds.{Mailbox, Entry}
 use Rattle.mail_world.specs.Users.{new_mailbox}
@@ -23,6 +26,7 @@ use Rattle.imap_steps.specs.Stepping.{Shared, Stepped}
 use Rattle.imap_steps.specs.LoggingIn.{credentials}
 use Rattle.imap_steps.specs.Selecting.{select, mailbox_told}
 use Rattle.imap_steps.specs.Appending.{create, append, unfit}
+use Rattle.imap_steps.specs.Listing.{list}
 use Rattle.imap_steps.specs.Executing.{executed}
 
 -- alice, whose id is 1, with this INBOX, and one session of a state
@@ -98,6 +102,29 @@ created : (verifier : List ℕ)
     × ((asked (store_of verifier empty_inbox (Known 1)) (Create (codes "work/"))).change ≡ Some (Creates 1 (codes "work/")))
 unfolding create refused created_name is_mailbox_name no_line ok_line
 created verifier = (refl, refl, refl, refl)
+
+-- alice, who has INBOX and `a/b`, and is subscribed to `b/c` and `inbox/d`, whose mailboxes are gone
+abbrev of_names : List ℕ → Shared
+of_names verifier = record {
+  world = record {
+    users = record { id = 1; name = codes "alice"; verifier = verifier } ∷ [];
+    mailboxes = empty_inbox ∷ new_mailbox 2 1 (codes "a/b") ∷ [];
+    subscriptions = record { owner = 1; name = codes "b/c" } ∷ record { owner = 1; name = codes "inbox/d" } ∷ [];
+    next = 3;
+  };
+  parts = record { number = 1; state = Known 1 } ∷ [];
+}
+
+-- An empty name asks for the separator, whatever the reference.
+listed_names : (verifier : List ℕ)
+    → ((asked (of_names verifier) (ListNames [] (codes "%") false)).answer ≡ codes "* LIST () \"/\" \"INBOX\"\r\n* LIST (\\Noselect) \"/\" \"a\"\r\na OK LIST completed\r\n")
+    × ((asked (of_names verifier) (ListNames [] (codes "*") false)).answer ≡ codes "* LIST () \"/\" \"INBOX\"\r\n* LIST () \"/\" \"a/b\"\r\na OK LIST completed\r\n")
+    × ((asked (of_names verifier) (ListNames (codes "a/") (codes "%") false)).answer ≡ codes "* LIST () \"/\" \"a/b\"\r\na OK LIST completed\r\n")
+    × ((asked (of_names verifier) (ListNames (codes "a") [] false)).answer ≡ codes "* LIST (\\Noselect) \"/\" \"\"\r\na OK LIST completed\r\n")
+    × ((asked (of_names verifier) (ListNames [] (codes "%") true)).answer ≡ codes "* LSUB (\\Noselect) \"/\" \"INBOX\"\r\n* LSUB (\\Noselect) \"/\" \"b\"\r\na OK LSUB completed\r\n")
+    × ((asked (of_names verifier) (ListNames (codes "b") (codes "*") true)).answer ≡ codes "* LSUB () \"/\" \"b/c\"\r\na OK LSUB completed\r\n")
+unfolding list listed matches list_line text_of ok_line
+listed_names verifier = (refl, refl, refl, refl, refl, refl)
 
 absent : (verifier : List ℕ)
     → (asked (store_of verifier empty_inbox (Known 1)) (Append (codes "work") (Keyword (codes "later") ∷ Seen ∷ []) None (codes "hi"))).answer

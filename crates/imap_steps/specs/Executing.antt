@@ -1,7 +1,7 @@
 -- What a command does (RFC 3501 §6).
 use Rattle.std.specs.Prelude.{ℕ, not, Bool, true, false, List, [], ◌++◌, Option, Some, None, Result, Ok, Err, codes}
 use Rattle.imap_grammar.specs.declared.commands.Command.{Command}
-use Rattle.imap_grammar.specs.declared.commands.Command.TheVariants.{Capability, Noop, Logout, Check, Login, Authenticate, Create, Append, Select}
+use Rattle.imap_grammar.specs.declared.commands.Command.TheVariants.{Capability, Noop, Logout, Check, Login, Authenticate, Create, List as ListNames, Append, Select}
 use Rattle.imap_grammar.specs.declared.commands.Tagged.{Tagged}
 use Rattle.imap_grammar.specs.declared.commands.Bad.{Bad}
 use Rattle.imap_grammar.specs.declared.commands.Bad.TheVariants.{WithTag, NoTag}
@@ -15,6 +15,7 @@ use Rattle.imap_steps.specs.Stepping.{Shared, Stepped, answered, answered_last, 
 use Rattle.imap_steps.specs.LoggingIn.{login, authenticate}
 use Rattle.imap_steps.specs.Selecting.{select}
 use Rattle.imap_steps.specs.Appending.{create, append}
+use Rattle.imap_steps.specs.Listing.{list}
 
 -- ---- when a command may be given
 
@@ -69,6 +70,7 @@ commanded shared number state tag Logout now = logout shared tag
 commanded shared number state tag (Login name password) now = before_login shared tag state (login shared number tag name password)
 commanded shared number state tag (Authenticate mechanism) now = before_login shared tag state (authenticate shared number tag mechanism)
 commanded shared number state tag (Create name) now = of_user shared tag state (λ user. create shared user tag name)
+commanded shared number state tag (ListNames reference name subscribed) now = of_user shared tag state (λ user. list shared user tag reference name subscribed)
 commanded shared number state tag (Select name examine condstore resync) now = select_plainly shared number tag state name examine condstore resync
 commanded shared number state tag (Append name flags date text) now = of_user shared tag state (λ user. append shared user tag name flags date text now)
 commanded shared number state tag Check now = while_selected shared tag state (completed shared tag (codes "CHECK"))
