@@ -20,3 +20,5 @@ pub mod Seen
 pub mod Words
 pub mod KeywordSets
 pub mod Summed
+pub mod Walking
+pub mod NameRows

@@ -6,3 +6,4 @@ pub mod Rooms
 pub mod Appending
 pub mod Summing
 pub mod SummaryRows
+pub mod Listing
