@@ -6,11 +6,13 @@ use Rattle.imap_grammar.specs.Classes.{is_atom_byte}
 use Rattle.imap_grammar.specs.declared.flags.Flag.{Flag}
 use Rattle.imap_grammar.specs.declared.flags.Flag.TheVariants.{Flagged, Seen, Keyword}
 use Rattle.imap_grammar.specs.declared.commands.Command.{Command}
-use Rattle.imap_grammar.specs.declared.commands.Command.TheVariants.{Check, Close, Login, Select, Create, List as ListNames, Append, Noop}
+use Rattle.imap_grammar.specs.declared.commands.Command.TheVariants.{Check, Close, Login, Select, Create, List as ListNames, Append, Noop, Delete, Subscribe, Unsubscribe, Status}
 use Rattle.imap_writer.specs.Tagged.{ok_line, no_line}
 use Rattle.imap_writer.specs.Flags.{flag_list_of}
 use Rattle.imap_writer.specs.Texts.{text_of}
 use Rattle.imap_writer.specs.Lines.{list_line, exists_line, recent_line, flags_line, unseen_line, permanent_line, uidnext_line, uidvalidity_line}
+use Rattle.imap_grammar.specs.declared.items.StatusItem.TheVariants.{Messages, Recent, Uidnext, Uidvalidity, Unseen, Highest}
+use Rattle.imap_writer.specs.Statuses.{status_line}
 use Rattle.transfer_codec.specs.Base64.{decoded, letters, bits}
 use Rattle.session_view.specs.declared.sessions.State.{State}
 use Rattle.session_view.specs.declared.sessions.State.TheVariants.{Fresh, Known, Selected}
@@ -20,13 +22,15 @@ use Rattle.mailbox_names.specs.Listing.{listed}
 use Rattle.mail_world.specs.Names.{inbox, is_mailbox_name, created_name}
 use Rattle.mail_world.specs.Worlds.{Mailbox, Entry}
 use Rattle.mail_world.specs.Users.{new_mailbox}
-use Rattle.mail_world.specs.Changes.{Create as Creates, TakeRecents}
+use Rattle.mail_world.specs.Changes.{Create as Creates, Delete as Deletes, Subscribe as Subscribes, Unsubscribe as Unsubscribes, TakeRecents}
 use Rattle.mail_world.specs.Applying.{refused}
 use Rattle.imap_steps.specs.Stepping.{Shared, Stepped}
 use Rattle.imap_steps.specs.LoggingIn.{credentials}
 use Rattle.imap_steps.specs.Selecting.{select, mailbox_told}
 use Rattle.imap_steps.specs.Appending.{create, append, unfit}
 use Rattle.imap_steps.specs.Listing.{list}
+use Rattle.imap_steps.specs.Managing.{delete, subscribe, unsubscribe}
+use Rattle.imap_steps.specs.Status.{status}
 use Rattle.imap_steps.specs.Executing.{executed}
 
 -- alice, whose id is 1, with this INBOX, and one session of a state
@@ -125,6 +129,47 @@ listed_names : (verifier : List ℕ)
     × ((asked (of_names verifier) (ListNames (codes "b") (codes "*") true)).answer ≡ codes "* LSUB () \"/\" \"b/c\"\r\na OK LSUB completed\r\n")
 unfolding list listed matches list_line text_of ok_line
 listed_names verifier = (refl, refl, refl, refl, refl, refl)
+-- alice with INBOX and `work`, which she subscribes, and two sessions, of which the second has a state
+abbrev two_mailboxes : List ℕ → State → Shared
+two_mailboxes verifier state = record {
+    mailboxes = empty_inbox ∷ new_mailbox 2 1 (codes "work") ∷ [];
+    subscriptions = record { owner = 1; name = codes "work" } ∷ [];
+  parts = record { number = 1; state = Known 1 } ∷ record { number = 2; state = state } ∷ [];
+
+abbrev has_selected : ℕ → State
+has_selected mailbox = Selected 1 (record { mailbox = mailbox; read_write = false; view = record { uids = []; recent = [] } })
+
+-- A mailbox that a session has selected isn't deleted, and INBOX never is. Where a session has another one selected, it is.
+deleted : (verifier : List ℕ)
+    → ((asked (two_mailboxes verifier (has_selected 2)) (Delete (codes "work"))).answer ≡ codes "a NO [INUSE] mailbox in use\r\n")
+    × ((asked (two_mailboxes verifier (has_selected 2)) (Delete (codes "work"))).change ≡ None)
+    × ((asked (two_mailboxes verifier (has_selected 1)) (Delete (codes "work"))).answer ≡ codes "a OK DELETE completed\r\n")
+    × ((asked (two_mailboxes verifier (has_selected 1)) (Delete (codes "work"))).change ≡ Some (Deletes 1 (codes "work") (1 ∷ [])))
+    × ((asked (two_mailboxes verifier Fresh) (Delete (codes "inbox"))).answer ≡ codes "a NO [CANNOT] bad name\r\n")
+    × ((asked (two_mailboxes verifier Fresh) (Delete (codes "play"))).answer ≡ codes "a NO [NONEXISTENT] no such mailbox\r\n")
+unfolding delete refused is_mailbox_name no_line ok_line
+deleted verifier = (refl, refl, refl, refl, refl, refl)
+
+-- Only a mailbox is subscribed, and only what is subscribed is unsubscribed.
+subscribed : (verifier : List ℕ)
+    → ((asked (two_mailboxes verifier Fresh) (Subscribe (codes "play"))).answer ≡ codes "a NO [NONEXISTENT] no such mailbox\r\n")
+    × ((asked (two_mailboxes verifier Fresh) (Subscribe (codes "Inbox"))).change ≡ Some (Subscribes 1 (codes "Inbox")))
+    × ((asked (two_mailboxes verifier Fresh) (Subscribe (codes "work"))).answer ≡ codes "a OK SUBSCRIBE completed\r\n")
+    × ((asked (two_mailboxes verifier Fresh) (Unsubscribe inbox)).answer ≡ codes "a NO [NONEXISTENT] no such mailbox\r\n")
+    × ((asked (two_mailboxes verifier Fresh) (Unsubscribe (codes "work"))).change ≡ Some (Unsubscribes 1 (codes "work")))
+    × ((asked (two_mailboxes verifier Fresh) (Unsubscribe (codes "work/"))).answer ≡ codes "a NO [CANNOT] bad name\r\n")
+unfolding subscribe unsubscribe refused is_mailbox_name no_line ok_line
+subscribed verifier = (refl, refl, refl, refl, refl, refl)
+
+-- The items are told as they were asked. Nothing is taken.
+told : (verifier : List ℕ) (mail : Mail)
+    → ((asked (store_of verifier (full_inbox mail) (Known 1)) (Status (codes "inbox") (Unseen ∷ Messages ∷ Recent ∷ Uidvalidity ∷ Uidnext ∷ Messages ∷ []))).answer
+    ≡ codes "* STATUS \"INBOX\" (UNSEEN 1 MESSAGES 2 RECENT 1 UIDVALIDITY 1 UIDNEXT 6 MESSAGES 2)\r\na OK STATUS completed\r\n")
+    × ((asked (store_of verifier (full_inbox mail) (Known 1)) (Status (codes "inbox") (Recent ∷ []))).change ≡ None)
+    × ((asked (store_of verifier (full_inbox mail) (Known 1)) (Status (codes "work") (Messages ∷ []))).answer ≡ codes "a NO [NONEXISTENT] no such mailbox\r\n")
+    × ((asked (store_of verifier (full_inbox mail) (Known 1)) (Status inbox (Messages ∷ Highest ∷ []))).answer ≡ codes "a BAD syntax\r\n")
+unfolding status status_line text_of ok_line no_line digits
+told verifier mail = (refl, refl, refl, refl)
 
 absent : (verifier : List ℕ)
     → (asked (store_of verifier empty_inbox (Known 1)) (Append (codes "work") (Keyword (codes "later") ∷ Seen ∷ []) None (codes "hi"))).answer

@@ -1,10 +1,12 @@
 -- What a command does (RFC 3501 §6).
-use Rattle.std.specs.Prelude.{ℕ, not, Bool, true, false, List, [], ◌++◌, Option, Some, None, Result, Ok, Err, codes}
+use Rattle.std.specs.Prelude.{ℕ, not, Bool, true, false, List, [], ◌++◌, Option, Some, None, Result, Ok, Err, codes, if◌then◌else◌}
+use Rattle.std.specs.List.{list_any}
 use Rattle.imap_grammar.specs.declared.commands.Command.{Command}
-use Rattle.imap_grammar.specs.declared.commands.Command.TheVariants.{Capability, Noop, Logout, Check, Login, Authenticate, Create, List as ListNames, Append, Select}
+use Rattle.imap_grammar.specs.declared.commands.Command.TheVariants.{Capability, Noop, Logout, Check, Login, Authenticate, Create, List as ListNames, Append, Select, Delete, Subscribe, Unsubscribe, Status}
 use Rattle.imap_grammar.specs.declared.commands.Tagged.{Tagged}
 use Rattle.imap_grammar.specs.declared.commands.Bad.{Bad}
 use Rattle.imap_grammar.specs.declared.commands.Bad.TheVariants.{WithTag, NoTag}
+use Rattle.imap_grammar.specs.declared.items.StatusItem.{StatusItem}
 use Rattle.imap_grammar.specs.declared.selecting.Resync.{Resync}
 use Rattle.imap_writer.specs.declared.refusals.Refusal.TheVariants.{LiteralTooLong, Syntax, State as WrongState}
 use Rattle.imap_writer.specs.Tagged.{ok_line}
@@ -16,6 +18,8 @@ use Rattle.imap_steps.specs.LoggingIn.{login, authenticate}
 use Rattle.imap_steps.specs.Selecting.{select}
 use Rattle.imap_steps.specs.Appending.{create, append}
 use Rattle.imap_steps.specs.Listing.{list}
+use Rattle.imap_steps.specs.Managing.{delete, subscribe, unsubscribe}
+use Rattle.imap_steps.specs.Status.{status, is_highest}
 
 -- ---- when a command may be given
 
@@ -62,6 +66,11 @@ select_plainly shared number tag state name examine false None = of_user shared 
 select_plainly shared number tag state name examine false (Some resync) = unserved shared tag
 select_plainly shared number tag state name examine true resync = unserved shared tag
 
+-- STATUS without what CONDSTORE brings, which isn't served yet (RFC 4551 §3.6)
+abbrev pub status_plainly : Shared → List ℕ → State → List ℕ → List StatusItem → Stepped
+status_plainly shared tag state name items =
+    if list_any is_highest items then unserved shared tag else of_user shared tag state (λ user. status shared user tag name items)
+
 -- What a command with its tag does in a session of a state.
 abbrev pub commanded : Shared → ℕ → State → List ℕ → Command → ℕ → Stepped
 commanded shared number state tag Capability now = capability shared tag
@@ -71,6 +80,10 @@ commanded shared number state tag (Login name password) now = before_login share
 commanded shared number state tag (Authenticate mechanism) now = before_login shared tag state (authenticate shared number tag mechanism)
 commanded shared number state tag (Create name) now = of_user shared tag state (λ user. create shared user tag name)
 commanded shared number state tag (ListNames reference name subscribed) now = of_user shared tag state (λ user. list shared user tag reference name subscribed)
+commanded shared number state tag (Delete name) now = of_user shared tag state (λ user. delete shared user tag name)
+commanded shared number state tag (Subscribe name) now = of_user shared tag state (λ user. subscribe shared user tag name)
+commanded shared number state tag (Unsubscribe name) now = of_user shared tag state (λ user. unsubscribe shared user tag name)
+commanded shared number state tag (Status name items) now = status_plainly shared tag state name items
 commanded shared number state tag (Select name examine condstore resync) now = select_plainly shared number tag state name examine condstore resync
 commanded shared number state tag (Append name flags date text) now = of_user shared tag state (λ user. append shared user tag name flags date text now)
 commanded shared number state tag Check now = while_selected shared tag state (completed shared tag (codes "CHECK"))

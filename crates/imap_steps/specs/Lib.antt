@@ -3,5 +3,7 @@ pub mod LoggingIn
 pub mod Selecting
 pub mod Appending
 pub mod Listing
+pub mod Managing
+pub mod Status
 pub mod Executing
 pub mod Step
