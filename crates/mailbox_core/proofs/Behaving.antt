@@ -16,14 +16,15 @@ use Rattle.mail_stands.specs.Stands.{Stands}
 use Rattle.mail_stands.specs.Leading.{KeepsOwners}
 use Rattle.mailbox_core.specs.declared.faults.MailFault.{MailFault}
 use Rattle.mailbox_core.specs.Faults.{fault_in, fault_of, IsOutage}
-use Rattle.mailbox_core.specs.Calls.{AnswersUnlessFailed, Behaves, IsMade, MakesUnless}
+use Rattle.mailbox_core.specs.Calls.{AnswersUnlessFailed, Behaves, BehavesBy, IsMade, MakesUnless}
+use Rattle.mailbox_core.specs.Rooms.{AreTables}
 use Rattle.mailbox_core.proofs.Leaving.{commits_nothing, is_made}
 use Rattle.mailbox_core.proofs.Owners.{keeps_all}
 
 abbrev pub error_of : (T : Type 0) → MailFault → Result T MailFault
 error_of T fault = Err fault
 
-abbrev ok_of : {T : Type 0} → T → Result T MailFault
+abbrev pub ok_of : {T : Type 0} → T → Result T MailFault
 ok_of answer = Ok answer
 
 -- the answers of a commit
@@ -64,7 +65,7 @@ same_told None = tt
 same_told (Some x) = tt
 
 -- nothing was called
-quiet_files : {D : Type 0} (told : Told D) (files : Files D) (tells : Type 0) → (tells → ⊥) → TellsFaults told tells files files
+pub quiet_files : {D : Type 0} (told : Told D) (files : Files D) (tells : Type 0) → (tells → ⊥) → TellsFaults told tells files files
 quiet_files told files tells never = record {
   disks = record {
     told0 = same_told (told.reading files.log0);
@@ -81,16 +82,19 @@ quiet_files told files tells never = record {
 -- ---- a store that is left alone
 
 module _ {D T : Type 0} (told : Told D) (result : Result T MailFault) (store : Store D) (stays : Stays told (Unit {0}) store.files store.files (stored store.tables)) (never : IsOk result → ⊥) where
-  pub behaves_alone : (IsErrOf result MailFault.Failed → ⊥) → Behaves told result store store
-  behaves_alone sound = record {
+  pub behaves_still : (Keeps : TableRows → TableRows → Type 0) → Keeps store.tables store.tables → (IsErrOf result MailFault.Failed → ⊥) → BehavesBy Keeps told result store store
+  behaves_still Keeps kept sound = record {
     after = store.tables;
-    owners = keeps_all store.tables;
+    owners = kept;
     crash = commits_nothing told (IsOk result) store.files (stored store.tables) (stored store.tables) never stays;
     done = λ ok. absurd (never ok);
     unchanged = λ refusal e. refl;
     untouched = λ e. refl;
     faults = quiet_files told store.files (IsErrOf result MailFault.Failed) sound;
   }
+
+  pub behaves_alone : (IsErrOf result MailFault.Failed → ⊥) → Behaves told result store store
+  behaves_alone sound = behaves_still KeepsOwners (keeps_all store.tables) sound
 
   -- want of memory before a commit
   pub made_alone : (world next : World) (after : TableRows) (answer : T) → result ≡ Err MailFault.NoMemory → Stands in_row store.tables world → Stands in_row after next → IsMade told result store store world next answer
@@ -101,12 +105,12 @@ module _ {D T : Type 0} (told : Told D) (result : Result T MailFault) (store : S
 
 -- ---- a commit
 
-module _ {D T : Type 0} (told : Told D) (old new : Store D) (after : TableRows) (owners : KeepsOwners old.tables after) where
+module _ {D T : Type 0} (told : Told D) (old new : Store D) (after : TableRows) where
   pub behaves_ok : (answer : T) → Commits told (true ≡ true) old.files new.files (stored old.tables) (stored after) → new.tables ≡ after → new.placed ≡ [] → new.spent ≡ false
-      → TellsFaults told (IsErrOf committed StoreFault.Failed) old.files new.files → Behaves told (Ok answer) old new
+      → TellsFaults told (IsErrOf committed StoreFault.Failed) old.files new.files → BehavesBy (AreTables after) told (Ok answer) old new
   behaves_ok answer crash tables placed spent faults = record {
     after = after;
-    owners = owners;
+    owners = refl;
     crash = crash;
     done = λ ok. (tables, placed, spent);
     unchanged = λ refusal e. cc;
@@ -116,10 +120,10 @@ module _ {D T : Type 0} (told : Told D) (old new : Store D) (after : TableRows) 
 
   pub behaves_err : (fault : StoreFault) → Commits told (false ≡ true) old.files new.files (stored old.tables) (stored after)
       → (IsErrOf (uncommitted fault) StoreFault.NoMemory → new.files ≡ old.files) → TellsFaults told (IsErrOf (uncommitted fault) StoreFault.Failed) old.files new.files
-      → Behaves told (error_of T (fault_in fault)) old new
+      → BehavesBy (AreTables after) told (error_of T (fault_in fault)) old new
   behaves_err Failed crash untouched faults = record {
     after = after;
-    owners = owners;
+    owners = refl;
     crash = crash;
     done = λ ok. absurd (false≢true ok);
     unchanged = λ refusal e. absurd (not_failed refusal e);
@@ -128,7 +132,7 @@ module _ {D T : Type 0} (told : Told D) (old new : Store D) (after : TableRows) 
   }
   behaves_err NoMemory crash untouched faults = record {
     after = after;
-    owners = owners;
+    owners = refl;
     crash = crash;
     done = λ ok. absurd (false≢true ok);
     unchanged = λ refusal e. absurd (not_starved refusal e);
@@ -136,10 +140,23 @@ module _ {D T : Type 0} (told : Told D) (old new : Store D) (after : TableRows) 
     faults = tells_as told old.files new.files (IsErrOf (uncommitted StoreFault.NoMemory) StoreFault.Failed) (error_of T MailFault.NoMemory ≡ error_of T MailFault.Failed) (λ e. cc) (λ e. cc) faults;
   }
 
+-- what stays in the tables with a call's changes
+pub behaves_kept : {D T : Type 0} (Keeps : TableRows → TableRows → Type 0) (told : Told D) (result : Result T MailFault) (old new : Store D) (after : TableRows)
+    → Keeps old.tables after → BehavesBy (AreTables after) told result old new → BehavesBy Keeps told result old new
+behaves_kept Keeps told result old new after kept its = record {
+  after = its.after;
+  owners = subst (λ (t : TableRows). Keeps old.tables t) (sym its.owners) kept;
+  crash = its.crash;
+  done = its.done;
+  unchanged = its.unchanged;
+  untouched = its.untouched;
+  faults = its.faults;
+}
+
 -- the same fault, as another call answers it
 module _ {D T : Type 0} (told : Told D) (old new : Store D) (fault : StoreFault) (given : MailFault) (is : given ≡ fault_in fault) where
-  pub behaves_told : Behaves told (error_of T (fault_in fault)) old new → Behaves told (error_of T given) old new
-  behaves_told behaves = subst (λ (f : MailFault). Behaves told (error_of T f) old new) (sym is) behaves
+  pub behaves_told : (Keeps : TableRows → TableRows → Type 0) → BehavesBy Keeps told (error_of T (fault_in fault)) old new → BehavesBy Keeps told (error_of T given) old new
+  behaves_told Keeps behaves = subst (λ (f : MailFault). BehavesBy Keeps told (error_of T f) old new) (sym is) behaves
 
   pub made_told : (world next : World) (answer : T) → IsMade told (error_of T (fault_in fault)) old new world next answer → IsMade told (error_of T given) old new world next answer
   made_told world next answer made = subst (λ (f : MailFault). IsMade told (error_of T f) old new world next answer) (sym is) made

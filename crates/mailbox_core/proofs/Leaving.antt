@@ -54,6 +54,15 @@ module _ {D : Type 0} (told : Told D) where
     since = λ since states left. leaves_more files since after (before ∷ states) (leaves_more files since before states left);
   }
 
+  -- nothing was to be committed
+  pub commits_none : (done : Type 0) (files : Files D) (state : Stored) → Stays told (Unit {0}) files files state → Commits told done files files state state
+  commits_none done files state stays = record {
+    settled = λ d. stays.settled tt;
+    joint = joint_more files state (state ∷ []) stays.joint;
+    within = leaves_more files (moments told files) state (state ∷ []) stays.within;
+    since = λ since states left. leaves_more files since state (state ∷ states) (leaves_more files since state states left);
+  }
+
 -- ---- worlds
 
 pub stand_more : (world : World) (worlds : List World) (states : List Stored) → AllByRecursion (StandsForOne worlds) states → AllByRecursion (StandsForOne (world ∷ worlds)) states

@@ -17,11 +17,12 @@ use Rattle.mailbox_core.specs.Left.{Left}
 
 -- ---- over any tables
 
--- What a call does to a store, whatever its tables are: it commits one list of changes, or nothing.
-pub record Behaves {D T : Type 0} (told : Told D) (result : Result T MailFault) (old new : Store D) : Type 0 where
+-- What a call does to a store, whatever its tables are: it commits one list of changes, or nothing. `Keeps` says what stays as it is in
+-- tables.
+pub record BehavesBy {D T : Type 0} (Keeps : TableRows → TableRows → Type 0) (told : Told D) (result : Result T MailFault) (old new : Store D) : Type 0 where
   -- the tables with its changes
   pub after : TableRows
-  pub owners : KeepsOwners old.tables after
+  pub owners : Keeps old.tables after
   -- at each return what a crash leaves has the tables of before or these
   pub crash : IfContents told old (λ content. Commits told (IsOk result) old.files new.files (stored_by content old.tables) (stored_by content after))
   -- after Ok the store has these, and goes on
@@ -31,6 +32,10 @@ pub record Behaves {D T : Type 0} (told : Told D) (result : Result T MailFault) 
   -- without memory no file is touched
   pub untouched : IsErrOf result MailFault.NoMemory → new.files ≡ old.files
   pub faults : TellsFaults told (IsErrOf result MailFault.Failed) old.files new.files
+
+-- the same of a call that takes nobody's mailbox
+abbrev pub Behaves : {D T : Type 0} → Told D → Result T MailFault → Store D → Store D → Type 0
+Behaves told result old new = BehavesBy KeepsOwners told result old new
 
 -- ---- over tables that stand for a world
 

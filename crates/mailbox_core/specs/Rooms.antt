@@ -30,6 +30,10 @@ abbrev pub PlansNone : Type 0 → MailFault → Option Refusal → Type 0
 PlansNone free fault None = (fault ≡ MailFault.NoMemory) ⊎ (free → ⊥)
 PlansNone free fault (Some refusal) = fault ≡ fault_of refusal
 
+-- the tables with a call's changes are these
+abbrev pub AreTables : TableRows → TableRows → TableRows → Type 0
+AreTables after before made = made ≡ after
+
 -- a refusal of these, or want of memory
 abbrev pub RefusesPlan : List Refusal → MailFault → Type 0
 RefusesPlan refusals fault = (fault ≡ MailFault.NoMemory) ⊎ IsRefusal refusals fault

@@ -2,7 +2,7 @@
 
 ghost use Rattle.std.specs.Prelude.{◌≡◌, ◌==◌};
 ghost use Rattle.std.specs.List.{list_all, slice_split};
-ghost use Rattle.mail_world.specs.Names.{created_name, is_level, is_mailbox_name, is_name_byte, is_user_byte, is_user_name, mailbox_name, separator};
+ghost use Rattle.mail_world.specs.Names.{created_name, is_inbox, is_level, is_mailbox_name, is_name_byte, is_user_byte, is_user_name, mailbox_name, separator};
 
 /// Whether a user may have a name: 1 to 64 bytes of `a` to `z`, `0` to `9`, `.`, `_` and `-`.
 pub fn is_user_name(name: &[u8]) -> bool
@@ -25,15 +25,18 @@ fn is_user_byte(b: u8) -> bool
     b.is_ascii_lowercase() || b.is_ascii_digit() || b == b'.' || b == b'_' || b == b'-'
 }
 
-// The name of the mailbox that a text names.
-pub(crate) fn canonical_name(text: &[u8]) -> &[u8]
+// Whether a name is INBOX, in any case.
+pub(crate) fn is_inbox(name: &[u8]) -> bool
+    ensures { result ≡ is_inbox name.now }
+{
+    name.eq_ignore_ascii_case(b"INBOX")
+}
+
+/// The name of the mailbox that a text names: `INBOX` where it is that in any case (RFC 3501 §5.1).
+pub fn canonical_name(text: &[u8]) -> &[u8]
     ensures { result.now ≡ mailbox_name text.now }
 {
-    if text.eq_ignore_ascii_case(b"INBOX") {
-        b"INBOX"
-    } else {
-        text
-    }
+    if is_inbox(text) { b"INBOX" } else { text }
 }
 
 // Whether a mailbox may have a name: 1 to 255 bytes of printed ASCII without wildcards, in levels that aren't empty.

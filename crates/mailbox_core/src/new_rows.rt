@@ -1,6 +1,6 @@
 //! Rows of new users and mailboxes.
 
-ghost use Rattle.std.specs.Prelude.{◌≡◌, ◌+◌, ◌++◌, length, IfOk, OnOk};
+ghost use Rattle.std.specs.Prelude.{◌≡◌, ◌+◌, ◌++◌, ◌∷◌, [], length, IfOk, OnOk};
 ghost use Rattle.mail_world.specs.Users.{next_id};
 ghost use Rattle.mail_world.specs.Looking.{verifier_of};
 ghost use Rattle.mail_stands.specs.RowChanges.{add_user_changes, create_changes};
@@ -109,4 +109,12 @@ fn id_after(id: u32) -> u32
     ensures { result ≡ next_id id }
 {
     if id == u32::MAX { 0 } else { id + 1 }
+}
+
+pub(crate) fn one_change(alloc: Global, change: RowChange) -> Result<Vec<RowChange>, AllocError>
+    ensures { IfOk result (λ changes. changes.items ≡ change ∷ []) }
+{
+    let mut changes = Vec::new(alloc);
+    changes.push(change)?;
+    Ok(changes)
 }

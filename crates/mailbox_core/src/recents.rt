@@ -1,6 +1,6 @@
 //! Recent messages, of which one session alone is told.
 
-ghost use Rattle.std.specs.Prelude.{◌≡◌, ◌∷◌, [], false, IfOk};
+ghost use Rattle.std.specs.Prelude.{◌≡◌, false, IfOk};
 ghost use Rattle.row_tables.specs.References.{HasMailbox};
 ghost use Rattle.row_tables.specs.declared.change.RowChange.{RowChange};
 ghost use Rattle.row_store.specs.Kept.{IfContents};
@@ -12,6 +12,7 @@ ghost use Rattle.mailbox_core.specs.Faults.{answer_of};
 ghost use Rattle.mailbox_core.specs.Rooms.{TakesRecents};
 
 use crate::finishing::finish_unrefused;
+use crate::new_rows::one_change;
 use disk_model::Disk;
 use octets::Octets;
 use row_store::{RowStore, StoreFault};
@@ -71,12 +72,4 @@ fn without_recents(alloc: Global, row: &Mailbox) -> Result<Mailbox, AllocError>
         first_recent: row.uidnext,
         highest: row.highest,
     })
-}
-
-fn one_change(alloc: Global, change: RowChange) -> Result<Vec<RowChange>, AllocError>
-    ensures { IfOk result (λ changes. changes.items ≡ change ∷ []) }
-{
-    let mut changes = Vec::new(alloc);
-    changes.push(change)?;
-    Ok(changes)
 }
