@@ -3,8 +3,10 @@ use Rattle.std.proofs.Common.{◌≡◌, ℕ, ◌+◌, ◌==◌, nat_le, nat_lt,
 use Rattle.std.proofs.lemmas.List.{length-map}
 use Rattle.std.proofs.lemmas.List.Sums.{length-filter}
 use Rattle.row_tables.specs.TableRows.{TableRows}
-use Rattle.row_tables.specs.RowCounts.{entry_count, mailbox_count}
+use Rattle.row_tables.specs.RowCounts.{entry_count, mailbox_count, subscription_count}
+use Rattle.row_tables.specs.References.{subscriptions_of}
 use Rattle.row_tables.specs.declared.heads.Mailbox.{Mailbox}
+use Rattle.row_tables.specs.declared.heads.Subscription.{Subscription}
 use Rattle.row_tables.specs.declared.marks.MailboxMessage.{MailboxMessage}
 use Rattle.mail_stands.specs.Arriving.{message_count}
 use Rattle.mail_stands.specs.Refusals.{mailboxes_of}
@@ -13,8 +15,11 @@ use Rattle.mail_stands.specs.Refusals.{mailboxes_of}
 pub mailboxes_counted : (owner : ℕ) (rows : List Mailbox) → mailbox_count owner rows ≡ length (mailboxes_of owner rows)
 mailboxes_counted owner rows = sym (length-filter (λ (r : Mailbox). r.owner == owner) rows)
 
+pub subscriptions_counted : (owner : ℕ) (rows : List Subscription) → subscription_count owner rows ≡ length (subscriptions_of owner rows)
+subscriptions_counted owner rows = sym (length-filter (λ (r : Subscription). r.owner == owner) rows)
+
 -- of a mailbox
-entries_counted : (t : TableRows) (id : ℕ) → entry_count id t.marks.mailbox_messages ≡ message_count t id
+pub entries_counted : (t : TableRows) (id : ℕ) → entry_count id t.marks.mailbox_messages ≡ message_count t id
 entries_counted t id =
     let of_mailbox : MailboxMessage → _ = λ (r : MailboxMessage). r.mailbox == id in
     sym (length-map (filter of_mailbox t.marks.mailbox_messages) (λ (r : MailboxMessage). r.uid) ∙ length-filter of_mailbox t.marks.mailbox_messages)

@@ -36,7 +36,7 @@ in_rows id uid flag (r ∷ rows) = by (r.mailbox == id) (r.flag == flag) (r.uid 
     by false false false e f rest = rest
 
 -- a UID is that of a message where the row is there
-in_messages : (id uid : ℕ) (rows : List MailboxMessage) → is_in uid (uids_of id rows) ≡ is_some (row_at mailbox_message_key (uid_key id uid) rows)
+pub in_messages : (id uid : ℕ) (rows : List MailboxMessage) → is_in uid (uids_of id rows) ≡ is_some (row_at mailbox_message_key (uid_key id uid) rows)
 in_messages id uid [] = refl
 in_messages id uid (r ∷ rows) = by (r.mailbox == id) (r.uid == uid) refl (in_messages id uid rows)
   where

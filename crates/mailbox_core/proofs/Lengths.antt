@@ -18,7 +18,7 @@ pub mailbox_is_text : (name : List ℕ) → is_mailbox_name name ≡ true → Is
 unfolding is_mailbox_name
 mailbox_is_text name named = grind (arith, common_steps)
 
-passes_first : (test : Bool) (reasons : List (Bool × Refusal)) → first_refusal ((not test, BadName) ∷ reasons) ≡ None → test ≡ true
+pub passes_first : (test : Bool) (reasons : List (Bool × Refusal)) → first_refusal ((not test, BadName) ∷ reasons) ≡ None → test ≡ true
 passes_first true reasons e = refl
 passes_first false reasons e = cc
 

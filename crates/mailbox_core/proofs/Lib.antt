@@ -22,3 +22,8 @@ pub mod KeywordSets
 pub mod Summed
 pub mod Walking
 pub mod NameRows
+pub mod Unchanged
+pub mod Deleted
+pub mod Subscribed
+pub mod Tallied
+pub mod StatusTold

@@ -39,11 +39,11 @@ member_holds P n [] there all = absurd (false≢true there)
 member_holds P n (m ∷ ns) there all =
     ⊎_elim (λ (here : (m == n) ≡ true). subst P (eqb-true m n here) all.0) (λ (behind : is_in n ns ≡ true). member_holds P n ns behind all.1) (or_cases (m == n) (is_in n ns) there)
 
-not_above : (n : ℕ) (ns : List ℕ) → AllByRecursion (λ m. n < m) ns → is_in n ns ≡ false
+pub not_above : (n : ℕ) (ns : List ℕ) → AllByRecursion (λ m. n < m) ns → is_in n ns ≡ false
 not_above n [] all = refl
 not_above n (m ∷ ns) all = rw (ne_eqb m n (λ same. omega (arith, all.0, same))) (not_above n ns all.1)
 
-above_less : (n m : ℕ) (ns : List ℕ) → n < m → AllByRecursion (λ k. m < k) ns → AllByRecursion (λ k. n < k) ns
+pub above_less : (n m : ℕ) (ns : List ℕ) → n < m → AllByRecursion (λ k. m < k) ns → AllByRecursion (λ k. n < k) ns
 above_less n m [] less all = tt
 above_less n m (k ∷ ns) less all = (omega (arith, all.0, less), above_less n m ns less all.1)
 
@@ -54,18 +54,18 @@ positions p q place [] all = refl
 positions p q place (n ∷ ns) all = rw (all.0, positions p q (place + 1) ns all.1) refl
 
 -- numbers above one aren't it
-passed : (o : ℕ) (os ns : List ℕ) → AllByRecursion (λ m. o < m) ns → AllByRecursion (λ n. not ((o == n) || is_in n os) ≡ not (is_in n os)) ns
+pub passed : (o : ℕ) (os ns : List ℕ) → AllByRecursion (λ m. o < m) ns → AllByRecursion (λ n. not ((o == n) || is_in n os) ≡ not (is_in n os)) ns
 passed o os [] all = tt
 passed o os (n ∷ ns) all = (rw (ne_eqb o n (λ same. omega (arith, all.0, same))) refl, passed o os ns all.1)
 
 -- those above the first are among the rest
-behind_first : (n : ℕ) (ns os : List ℕ) → AllByRecursion (λ o. n < o) os → AllByRecursion (λ o. is_in o (n ∷ ns) ≡ true) os → AllByRecursion (λ o. is_in o ns ≡ true) os
+pub behind_first : (n : ℕ) (ns os : List ℕ) → AllByRecursion (λ o. n < o) os → AllByRecursion (λ o. is_in o (n ∷ ns) ≡ true) os → AllByRecursion (λ o. is_in o ns ≡ true) os
 behind_first n ns [] above all = tt
 behind_first n ns (o ∷ os) above all =
     (⊎_elim (λ (here : (n == o) ≡ true). absurd (omega (arith, eqb-true n o here, above.0))) (λ (behind : is_in o ns ≡ true). behind) (or_cases (n == o) (is_in o ns) all.0), behind_first n ns os above.1 all.1)
 
 -- what is among numbers and isn't the first is above it
-above_first : (n o : ℕ) (ns : List ℕ) → AllByRecursion (λ m. n < m) ns → (o == n) ≡ false → is_in o (n ∷ ns) ≡ true → n < o
+pub above_first : (n o : ℕ) (ns : List ℕ) → AllByRecursion (λ m. n < m) ns → (o == n) ≡ false → is_in o (n ∷ ns) ≡ true → n < o
 above_first n o ns all differs there =
     ⊎_elim (λ (here : (n == o) ≡ true). absurd (true≢false (sym (eq-eqb o n (sym (eqb-true n o here))) ∙ differs)))
     (λ (behind : is_in o ns ≡ true). member_holds (λ m. n < m) o ns behind all) (or_cases (n == o) (is_in o ns) there)

@@ -64,7 +64,7 @@ any_filter p q (x ∷ xs) = by (q x) (any_filter p q xs)
     by true rest = ap (λ b. p x || b) rest
     by false rest = rest
 
-filter_map : {X : Type 0} (q : ℕ → Bool) (f : X → ℕ) (xs : List X) → filter q (map f xs) ≡ map f (filter (λ x. q (f x)) xs)
+pub filter_map : {X : Type 0} (q : ℕ → Bool) (f : X → ℕ) (xs : List X) → filter q (map f xs) ≡ map f (filter (λ x. q (f x)) xs)
 filter_map q f [] = refl
 filter_map q f (x ∷ xs) = by (q (f x)) (filter_map q f xs)
   where
@@ -76,7 +76,7 @@ positions_map : {X : Type 0} (p : ℕ → Bool) (q : X → Bool) (f : X → ℕ)
 positions_map p q f place [] all = refl
 positions_map p q f place (x ∷ xs) all = rw (all.0, positions_map p q f (place + 1) xs all.1) refl
 
-weaker : {X : Type 0} (P Q : X → Type 0) → ((x : X) → P x → Q x) → (xs : List X) → AllByRecursion P xs → AllByRecursion Q xs
+pub weaker : {X : Type 0} (P Q : X → Type 0) → ((x : X) → P x → Q x) → (xs : List X) → AllByRecursion P xs → AllByRecursion Q xs
 weaker P Q h [] all = tt
 weaker P Q h (x ∷ xs) all = (h x all.0, weaker P Q h xs all.1)
 
@@ -110,7 +110,7 @@ module _ (same : SameKeys) (laws : InsertLaws flag_name_key) (content : BodyPart
   flagged_at : (uid : ℕ) (name : List ℕ) → is_flagged id uid name names rows ≡ has_flag_named name (flags_of (entry_at uid m.entries))
   flagged_at uid name = s.flags id uid name ∙ ap (λ (o : Option Entry). has_flag_named name (flags_of o)) (at_uid uid)
 
-  entries_at : AllByRecursion (λ (e : Entry). entry_at e.uid m.entries ≡ Some e) m.entries
+  pub entries_at : AllByRecursion (λ (e : Entry). entry_at e.uid m.entries ≡ Some e) m.entries
   entries_at = each_at m.entries (s.legal.mailboxes id m at).itself.uids
 
   proper : (e : Entry) → entry_at e.uid m.entries ≡ Some e → list_all is_flag e.message.flags ≡ true
@@ -119,14 +119,18 @@ module _ (same : SameKeys) (laws : InsertLaws flag_name_key) (content : BodyPart
   flagged : (e : Entry) (name : List ℕ) → entry_at e.uid m.entries ≡ Some e → is_flagged id e.uid name names rows ≡ has_flag_named name e.message.flags
   flagged e name found = flagged_at e.uid name ∙ ap (λ (o : Option Entry). has_flag_named name (flags_of o)) found
 
-  -- ---- the first unseen
+  -- ---- the unseen
+
+  pub each_unseen : AllByRecursion (λ (e : Entry). not (is_flagged id e.uid (codes "\\Seen") names rows) ≡ is_unseen e) m.entries
+  each_unseen =
+      weaker (λ (e : Entry). entry_at e.uid m.entries ≡ Some e) (λ (e : Entry). not (is_flagged id e.uid (codes "\\Seen") names rows) ≡ is_unseen e)
+      (λ e found. ap not (flagged e (codes "\\Seen") found ∙ sym (seen_named e.message.flags (proper e found)))) m.entries entries_at
 
   pub unseen_is : position (λ uid. not (is_flagged id uid (codes "\\Seen") names rows)) (uids_of m.entries) ≡ first_unseen m.entries
   unseen_is =
       let test : ℕ → Bool = λ uid. not (is_flagged id uid (codes "\\Seen") names rows) in
       position_from-zero test (uids_of m.entries)
-      ∙ (positions_map test is_unseen (λ (e : Entry). e.uid) 0 m.entries
-      (weaker (λ (e : Entry). entry_at e.uid m.entries ≡ Some e) (λ (e : Entry). test e.uid ≡ is_unseen e) (λ e found. ap not (flagged e (codes "\\Seen") found ∙ sym (seen_named e.message.flags (proper e found)))) m.entries entries_at)
+      ∙ (positions_map test is_unseen (λ (e : Entry). e.uid) 0 m.entries each_unseen
       ∙ sym (position_from-zero is_unseen m.entries))
 
   -- ---- keywords

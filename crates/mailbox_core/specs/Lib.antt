@@ -1,9 +1,11 @@
 pub mod Faults
 pub mod Left
 pub mod Calls
+pub mod Deleting
 pub mod Messages
 pub mod Rooms
 pub mod Appending
 pub mod Summing
 pub mod SummaryRows
 pub mod Listing
+pub mod Statuses

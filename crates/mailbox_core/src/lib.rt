@@ -2,12 +2,13 @@
 //!
 //! Where the tables stand for a world, each call that changes something is one change of that world: refused with its first reason,
 //! or made, in the tables and in the files, so that a crash at any moment leaves the world before or after it. Over tables that
-//! stand for no world it ends too, takes no user and no mailbox away, and changes no owner.
+//! stand for no world it ends too, takes no user away and no mailbox but one that its user deletes, and changes no owner.
 #![tactic(auto)]
 
 mod adding;
 mod appending;
 mod arrivals;
+mod deleting;
 mod faults;
 mod finishing;
 mod keywords;
@@ -17,8 +18,11 @@ mod look_ups;
 mod looking;
 mod names;
 mod new_rows;
+mod numbers;
 mod recents;
 mod rooms;
+mod statuses;
+mod subscribing;
 mod summing;
 mod uid_lists;
 mod unseen;
@@ -26,10 +30,14 @@ mod verifiers;
 
 pub use adding::{add_user, create};
 pub use appending::append;
+pub use deleting::delete;
 pub use faults::MailFault;
 pub use listing::list;
 pub use looking::{find, login, user_of};
 pub use mailbox_names::Listed;
-pub use names::is_user_name;
+pub use names::{canonical_name, is_user_name};
+pub use numbers::Status;
 pub use recents::take_recent;
+pub use statuses::status;
+pub use subscribing::{subscribe, unsubscribe};
 pub use summing::{Summary, summarize};

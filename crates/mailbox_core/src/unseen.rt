@@ -51,7 +51,7 @@ fn first_without(flags: Numbered<'_, FlagRow>, flag: u64, uids: &[u32]) -> Optio
 }
 
 // The UID of the next row with a flag.
-fn next_flagged(flags: &mut Numbered<'_, FlagRow>, flag: u64) -> Option<u32>
+pub(crate) fn next_flagged(flags: &mut Numbered<'_, FlagRow>, flag: u64) -> Option<u32>
     ensures { MatchOption result (flagged_uids flag flags.old ≡ []) (λ uid. flagged_uids flag flags.old ≡ uid ∷ flagged_uids flag flags.new) }
 {
     'flags: while let Some(row) = flags.next() {
