@@ -1,11 +1,14 @@
 -- Mailboxes that are to be selected.
 use Rattle.std.proofs.Common.{◌≡◌, ℕ, Bool, true, false, not, List, Option, Some, None, refl}
+use Rattle.std.specs.List.{list_any}
 use Rattle.std.specs.Option.{option_map}
+use Rattle.imap_grammar.specs.declared.items.StatusItem.{StatusItem}
 use Rattle.imap_grammar.specs.declared.selecting.Resync.{Resync}
 use Rattle.session_view.specs.declared.sessions.State.{State}
 use Rattle.imap_steps.specs.Stepping.{Shared}
 use Rattle.imap_steps.specs.Selecting.{select}
-use Rattle.imap_steps.specs.Executing.{of_user, select_plainly, unserved}
+use Rattle.imap_steps.specs.Status.{is_highest, status}
+use Rattle.imap_steps.specs.Executing.{of_user, select_plainly, status_plainly, unserved}
 use Rattle.imap_exec.specs.Users.{is_plain}
 
 module _ (shared : Shared) (number : ℕ) (tag : List ℕ) (state : State) (name : List ℕ) (examine : Bool) where
@@ -19,6 +22,14 @@ module _ (shared : Shared) (number : ℕ) (tag : List ℕ) (state : State) (name
   not_plainly false None e = cc
   not_plainly false (Some resync) e = refl
   not_plainly true resync e = refl
+
+-- STATUS of items that are served
+module _ (shared : Shared) (tag : List ℕ) (state : State) (name : List ℕ) (items : List StatusItem) where
+  pub status_served : list_any is_highest items ≡ false → status_plainly shared tag state name items ≡ of_user shared tag state (λ user. status shared user tag name items)
+  status_served e = rw e refl
+
+  pub status_unserved : list_any is_highest items ≡ true → status_plainly shared tag state name items ≡ unserved shared tag
+  status_unserved e = rw e refl
 
 pub none_so : {A B : Type 0} (f : A → B) (o : Option A) → None ≡ option_map f o → o ≡ None
 none_so f None e = refl

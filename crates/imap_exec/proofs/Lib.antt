@@ -9,3 +9,4 @@ pub mod Fitting
 pub mod Placing
 pub mod Summarized
 pub mod Selected
+pub mod Numbered

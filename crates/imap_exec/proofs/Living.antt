@@ -1,16 +1,21 @@
 -- Sessions stay those of users who are there.
-use Rattle.std.proofs.Common.{◌≡◌, ℕ, Bool, true, false, cond, List, [], ◌∷◌, ◌++◌, Option, Some, None, IsSomeAnd, find, filter, not, refl, subst}
+use Rattle.std.proofs.Common.{◌≡◌, ◌⊎◌, ℕ, Bool, true, false, cond, List, [], ◌∷◌, ◌++◌, Option, Some, None, IsSome, IsSomeAnd, find, filter, not, ◌==◌, refl, sym, subst, ◌∙◌, ⊎_elim}
+use Rattle.std.proofs.lemmas.Bool.{true≢false, eq-eqb, or_left, or_right}
 use Rattle.ordered_rows.specs.RowKey.{number_key}
 use Rattle.ordered_rows.specs.Listed.{row_at}
-use Rattle.row_tables.specs.Keys.{mailbox_key}
+use Rattle.row_tables.specs.Keys.{mailbox_key, user_key}
 use Rattle.row_tables.specs.TableRows.{TableRows}
 use Rattle.row_tables.specs.References.{HasUser}
 use Rattle.row_tables.specs.declared.heads.Mailbox.{Mailbox}
+use Rattle.row_tables.specs.declared.heads.User.{User}
 use Rattle.session_view.specs.declared.sessions.SessionPart.{SessionPart}
 use Rattle.session_view.specs.declared.sessions.State.{State}
 use Rattle.session_view.specs.declared.sessions.State.TheVariants.{Fresh, Asked, Known, Selected}
 use Rattle.session_view.specs.Parts.{has_number, state_in, state_of, with_state}
+use Rattle.mail_world.specs.Worlds.{is_among}
 use Rattle.mail_stands.specs.Leading.{KeepsOwners}
+use Rattle.mailbox_core.specs.Deleting.{KeepsHeld}
+use Rattle.imap_steps.specs.Managing.{held, selected_in}
 use Rattle.imap_exec.specs.Ready.{HasOwned, IsLive, AreLive}
 use Rattle.imap_exec.specs.Users.{user_in}
 
@@ -90,3 +95,41 @@ module _ (t after : TableRows) (keeps : KeepsOwners t after) where
   pub live_stay : (parts : List SessionPart) → AreLive t parts → AreLive after parts
   live_stay [] live = tt
   live_stay (part ∷ parts) live = (state_stays part.state live.0, live_stay parts live.1)
+
+-- Where users stay, and the mailboxes that sessions have selected, sessions do.
+module _ (t after : TableRows) (by_user : ℕ) (all : List ℕ) (keeps : KeepsHeld by_user all t after) where
+  user_kept : (id : ℕ) → HasUser t id → HasUser after id
+  user_kept id there = subst (λ (users : List User). IsSome (row_at user_key (number_key id) users)) (sym keeps.users) there
+
+  owned_kept : (user mailbox : ℕ) → is_among mailbox all ≡ true → HasOwned t user mailbox → HasOwned after user mailbox
+  owned_kept user mailbox selected owned = by (row_at mailbox_key (number_key mailbox) t.heads.mailboxes) (keeps.mailboxes mailbox) owned
+    where
+      now : Option Mailbox
+      now = row_at mailbox_key (number_key mailbox) after.heads.mailboxes
+
+      by : (o : Option Mailbox) → ((row : Mailbox) → o ≡ Some row → (now ≡ Some row) ⊎ ((row.owner ≡ by_user) × (is_among mailbox all ≡ false))) → IsSomeAnd o (λ row. row.owner ≡ user)
+          → IsSomeAnd now (λ row. row.owner ≡ user)
+      by None kept is = absurd is
+      by (Some row) kept is =
+          ⊎_elim (λ (same : now ≡ Some row). subst (λ (o : Option Mailbox). IsSomeAnd o (λ r. r.owner ≡ user)) (sym same) is)
+          (λ (gone : (row.owner ≡ by_user) × (is_among mailbox all ≡ false)). absurd (true≢false (sym selected ∙ gone.1))) (kept row refl)
+
+  abbrev Covers : List ℕ → Type 0
+  Covers ids = (id : ℕ) → is_among id ids ≡ true → is_among id all ≡ true
+
+  state_kept : (parts : List SessionPart) (state : State) → Covers (selected_in state ++ held parts) → IsLive t state → IsLive after state × Covers (held parts)
+  state_kept parts Fresh covers live = (tt, covers)
+  state_kept parts (Asked tag) covers live = (tt, covers)
+  state_kept parts (Known user) covers live = (user_kept user live, covers)
+  state_kept parts (Selected user selection) covers live =
+      let id : ℕ = selection.mailbox in (
+        (user_kept user live.0, owned_kept user id (covers id (or_left (id == id) (is_among id (held parts)) (eq-eqb id id refl))) live.1),
+        λ other there. covers other (or_right (id == other) (is_among other (held parts)) there),
+      )
+
+  live_covered : (parts : List SessionPart) → Covers (held parts) → AreLive t parts → AreLive after parts
+  live_covered [] covers live = tt
+  live_covered (part ∷ parts) covers live = let its = state_kept parts part.state covers live.0 in (its.0, live_covered parts its.1 live.1)
+
+pub live_held : (t after : TableRows) (by_user : ℕ) (parts : List SessionPart) → KeepsHeld by_user (held parts) t after → AreLive t parts → AreLive after parts
+live_held t after by_user parts keeps live = live_covered t after by_user (held parts) keeps parts (λ id there. there) live

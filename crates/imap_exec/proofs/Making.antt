@@ -2,6 +2,7 @@
 use Rattle.std.proofs.Common.{◌≡◌, ℕ, false, List, ◌∷◌, Option, Some, None, Result, Ok, Err, IsOk, IsErrOf, IfOk, MatchResult, inl, inr, refl, sym, ap, subst, ◌∙◌}
 use Rattle.std.proofs.lemmas.Bool.{false≢true}
 use Rattle.disk_model.specs.Told.{Told}
+use Rattle.row_tables.specs.TableRows.{TableRows}
 use Rattle.row_store.specs.ThreeFiles.{TellsFaults}
 use Rattle.row_store.specs.Holding.{in_row, stored_by}
 use Rattle.row_store.specs.Crashes.{IsSettled}
@@ -15,11 +16,12 @@ use Rattle.mail_world.specs.Worlds.{World, no_world}
 use Rattle.mail_world.specs.Changes.{Change, Refusal, BadName, Absent, Exists, InUse, Full, NoUid}
 use Rattle.mail_world.specs.Applying.{apply, refused}
 use Rattle.mail_stands.specs.Stands.{Stands}
+use Rattle.mail_stands.specs.Leading.{KeepsOwners}
 use Rattle.mailbox_core.specs.Left.{Left}
 use Rattle.mailbox_core.specs.declared.faults.MailFault.{MailFault}
 use Rattle.mailbox_core.specs.declared.faults.MailFault.TheVariants as fault
 use Rattle.mailbox_core.specs.Faults.{fault_of, IsOutage}
-use Rattle.mailbox_core.specs.Calls.{Behaves, IsMade, IsRefused, Makes, MakesUnless}
+use Rattle.mailbox_core.specs.Calls.{Behaves, BehavesBy, IsMade, IsRefused, Makes, MakesUnless}
 use Rattle.imap_steps.specs.declared.outcome.Outcome.{Outcome}
 use Rattle.imap_steps.specs.Stepping.{Shared, applied, made, unless_refused, completed, refused_with, told_as}
 use Rattle.imap_exec.specs.Ready.{AreLive, IsReady}
@@ -107,7 +109,7 @@ module _ {D T : Type 0} (told : Told D) (call : Result T MailFault) (result : Re
   abbrev sharing : World → Shared
   sharing world = record { world = world; parts = parts }
 
-  module _ (behaves : Behaves told call old new) (ready : IsReady old parts) where
+  module _ (Keeps : TableRows → TableRows → Type 0) (stay : (after : TableRows) → Keeps old.tables after → AreLive old.tables parts → AreLive after parts) (behaves : BehavesBy Keeps told call old new) (ready : IsReady old parts) where
     refused_ready : (refusal : Refusal) → call ≡ Err (fault_of refusal) → IsReady new parts
     refused_ready refusal is = subst (λ (store : Store D). IsReady store parts) (sym (behaves.unchanged refusal is)) ready
 
@@ -115,7 +117,7 @@ module _ {D T : Type 0} (told : Told D) (call : Result T MailFault) (result : Re
     made_ready ok = record {
       unspent = (behaves.done ok).2;
       none_placed = (behaves.done ok).1;
-      live = subst (λ t. AreLive t parts) (sym (behaves.done ok).0) (live_stay old.tables behaves.after behaves.owners parts ready.live);
+      live = subst (λ t. AreLive t parts) (sym (behaves.done ok).0) (stay behaves.after behaves.owners ready.live);
     }
 
     ready_after : Ended call → IsOk result → IsReady new parts
@@ -179,13 +181,21 @@ module _ {D T : Type 0} (told : Told D) (call : Result T MailFault) (result : Re
     does_change None makes stands = does_made makes
     does_change (Some refusal) makes stands = does_refused refusal makes stands
 
-  -- a call that makes a change, and what is told of it
-  pub executes_change : Behaves told call old new → IsReady old parts → (change : World → Change) (answer : World → T)
+  -- a call that makes a change, and what is told of it; whatever it does to tables, the sessions stay those of users who are there
+  pub executes_kept : (Keeps : TableRows → TableRows → Type 0) → ((after : TableRows) → Keeps old.tables after → AreLive old.tables parts → AreLive after parts)
+      → BehavesBy Keeps told call old new → IsReady old parts → (change : World → Change) (answer : World → T)
       → ((world : World) → Stands in_row old.tables world → Makes told call old new world (change world) (answer world))
       → Executes told result old new parts parts before after (λ shared. made shared (change shared.world) tag name)
   unfolding applied
-  executes_change behaves ready change answer makes = record {
+  executes_kept Keeps stay behaves ready change answer makes = record {
     carries = λ world stands. does_change world (apply world (change world)) (answer world) (change world) refl (refused world (change world)) (makes world stands) stands;
-    ready = ready_after behaves ready (ended call);
-    faults = faults_after behaves ready (sharing no_world);
+    ready = ready_after Keeps stay behaves ready (ended call);
+    faults = faults_after Keeps stay behaves ready (sharing no_world);
   }
+
+  -- the same of a call that takes nobody's mailbox
+  pub executes_change : Behaves told call old new → IsReady old parts → (change : World → Change) (answer : World → T)
+      → ((world : World) → Stands in_row old.tables world → Makes told call old new world (change world) (answer world))
+      → Executes told result old new parts parts before after (λ shared. made shared (change shared.world) tag name)
+  executes_change behaves ready change answer makes =
+      executes_kept KeepsOwners (λ tables keeps live. live_stay old.tables tables keeps parts live) behaves ready change answer makes

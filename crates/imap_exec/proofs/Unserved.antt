@@ -2,6 +2,7 @@
 use Rattle.std.proofs.Common.{◌≡◌, ℕ, Bool, List, Option, refl}
 use Rattle.date_grammar.specs.declared.parts.Stamp.{Stamp}
 use Rattle.imap_grammar.specs.declared.flags.Flag.{Flag}
+use Rattle.imap_grammar.specs.declared.items.StatusItem.{StatusItem}
 use Rattle.imap_grammar.specs.declared.selecting.Resync.{Resync}
 use Rattle.imap_grammar.specs.declared.commands.Command.{Command}
 use Rattle.imap_grammar.specs.declared.commands.Command.TheVariants.{Capability, Noop, Logout, Check, Close, Expunge, Login, Authenticate, Enable, Create, Delete, Subscribe, Unsubscribe, Rename, List as ListNames, Status, Append, Select, Store, Fetch, Search, Sort, Thread, Copy, UidExpunge}
@@ -18,6 +19,10 @@ pub record IsOther (command : Command) : Type 0 where
   pub login : (name password : List ℕ) → command ≡ Login name password → ⊥
   pub authenticate : (mechanism : List ℕ) → command ≡ Authenticate mechanism → ⊥
   pub create : (name : List ℕ) → command ≡ Create name → ⊥
+  pub delete : (name : List ℕ) → command ≡ Delete name → ⊥
+  pub subscribe : (name : List ℕ) → command ≡ Subscribe name → ⊥
+  pub unsubscribe : (name : List ℕ) → command ≡ Unsubscribe name → ⊥
+  pub status : (name : List ℕ) (items : List StatusItem) → command ≡ Status name items → ⊥
   pub select : (name : List ℕ) (examine condstore : Bool) (resync : Option Resync) → command ≡ Select name examine condstore resync → ⊥
   pub append : (name : List ℕ) (flags : List Flag) (stamp : Option Stamp) (text : List ℕ) → command ≡ Append name flags stamp text → ⊥
 
@@ -30,17 +35,17 @@ module _ (shared : Shared) (number now : ℕ) (state : State) (tag : List ℕ) w
   unserved_else (Login a b) other = absurd (other.login a b refl)
   unserved_else (Authenticate a) other = absurd (other.authenticate a refl)
   unserved_else (Create a) other = absurd (other.create a refl)
+  unserved_else (Delete a) other = absurd (other.delete a refl)
+  unserved_else (Subscribe a) other = absurd (other.subscribe a refl)
+  unserved_else (Unsubscribe a) other = absurd (other.unsubscribe a refl)
+  unserved_else (Status a b) other = absurd (other.status a b refl)
   unserved_else (Select a b x y) other = absurd (other.select a b x y refl)
   unserved_else (Append a b x y) other = absurd (other.append a b x y refl)
   unserved_else Close other = refl
   unserved_else Expunge other = refl
   unserved_else (Enable a) other = refl
-  unserved_else (Delete a) other = refl
-  unserved_else (Subscribe a) other = refl
-  unserved_else (Unsubscribe a) other = refl
   unserved_else (Rename a b) other = refl
   unserved_else (ListNames a b x) other = refl
-  unserved_else (Status a b) other = refl
   unserved_else (Store a b x y z u) other = refl
   unserved_else (Fetch a b x y z) other = refl
   unserved_else (Search a b x) other = refl

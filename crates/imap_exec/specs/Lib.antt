@@ -3,3 +3,4 @@ pub mod Does
 pub mod Answers
 pub mod Users
 pub mod Selecting
+pub mod Numbers

@@ -9,10 +9,13 @@ ghost use Rattle.imap_exec.specs.Does.{Executes};
 use crate::append::append;
 use crate::authenticate::authenticate;
 use crate::create::create;
+use crate::delete::delete;
 use crate::lines::complete;
 use crate::login::login;
 use crate::select::select;
 use crate::simple::{capability, check, logout, unserved};
+use crate::status::status;
+use crate::subscribe::{subscribe, unsubscribe};
 use disk_model::Disk;
 use imap_grammar::{Command, Tagged};
 use imap_steps::Outcome;
@@ -80,6 +83,14 @@ fn execute_tagged<D: Disk>(
             authenticate(alloc, sessions, number, answer, tag, mechanism)
         }
         Command::Create(name) => create(alloc, store, sessions, number, answer, tag, name),
+        Command::Delete(name) => delete(alloc, store, sessions, number, answer, tag, name),
+        Command::Subscribe(name) => subscribe(alloc, store, sessions, number, answer, tag, name),
+        Command::Unsubscribe(name) => {
+            unsubscribe(alloc, store, sessions, number, answer, tag, name)
+        }
+        Command::Status { name, items } => {
+            status(alloc, store, sessions, number, answer, tag, name, items)
+        }
         Command::Select {
             name,
             examine,

@@ -104,17 +104,20 @@ fn refusal_of(fault: MailFault) -> Result<Refusal, StoreFault>
 }
 
 // Tells of a call that changed the store, or refused to.
-pub(crate) fn tell_made(
+pub(crate) fn tell_made<T: Drop>(
     alloc: Global,
     answer: &mut Vec<u8>,
     tag: &[u8],
     name: &[u8],
-    made: Result<u32, MailFault>,
+    made: Result<T, MailFault>,
 ) -> Result<Outcome, StoreFault>
     ensures { TellsMade made result answer.old.items answer.new.items tag.now name.now }
 {
     match made {
-        Ok(_) => complete(alloc, answer, tag, name),
+        Ok(made) => {
+            drop(made);
+            complete(alloc, answer, tag, name)
+        }
         Err(fault) => {
             let refusal = refusal_of(fault)?;
             refuse(alloc, answer, tag, refusal)

@@ -1,5 +1,5 @@
 use Rattle.std.proofs.Common.{codes}
-use Rattle.imap_grammar.specs.declared.commands.Command.TheVariants.{Capability, Noop, Logout, Check, Authenticate, Create, Append, Select}
+use Rattle.imap_grammar.specs.declared.commands.Command.TheVariants.{Capability, Noop, Logout, Check, Authenticate, Create, Delete, Subscribe, Unsubscribe, Status, Append, Select}
 use Rattle.session_view.specs.Parts.{state_of}
 use Rattle.imap_steps.specs.Stepping.{completed}
 use Rattle.imap_steps.specs.Executing.{capability, commanded, logout, unserved, while_selected}
@@ -40,6 +40,26 @@ returns-in-Create g c =
     as_command g.D.Disk.told c.create.result c.args.store.now c.create.new.store c.args.sessions.now c.args.sessions.now c.args.answer.now.items c.create.new.answer.items c.args.number c.args.now c.args.tag.now c.args.command.now (Create c.in-Create.name) c.in-Create.is
     c.create.ensures
 
+pub returns-in-Delete : goal.returns-in-Delete
+returns-in-Delete g c =
+    as_command g.D.Disk.told c.delete.result c.args.store.now c.delete.new.store c.args.sessions.now c.args.sessions.now c.args.answer.now.items c.delete.new.answer.items c.args.number c.args.now c.args.tag.now c.args.command.now (Delete c.in-Delete.name) c.in-Delete.is
+    c.delete.ensures
+
+pub returns-in-Subscribe : goal.returns-in-Subscribe
+returns-in-Subscribe g c =
+    as_command g.D.Disk.told c.subscribe.result c.args.store.now c.subscribe.new.store c.args.sessions.now c.args.sessions.now c.args.answer.now.items c.subscribe.new.answer.items c.args.number c.args.now c.args.tag.now c.args.command.now (Subscribe c.in-Subscribe.name) c.in-Subscribe.is
+    c.subscribe.ensures
+
+pub returns-in-Unsubscribe : goal.returns-in-Unsubscribe
+returns-in-Unsubscribe g c =
+    as_command g.D.Disk.told c.unsubscribe.result c.args.store.now c.unsubscribe.new.store c.args.sessions.now c.args.sessions.now c.args.answer.now.items c.unsubscribe.new.answer.items c.args.number c.args.now c.args.tag.now c.args.command.now (Unsubscribe c.in-Unsubscribe.name) c.in-Unsubscribe.is
+    c.unsubscribe.ensures
+
+pub returns-in-Status : goal.returns-in-Status
+returns-in-Status g c =
+    as_command g.D.Disk.told c.status.result c.args.store.now c.args.store.now c.args.sessions.now c.args.sessions.now c.args.answer.now.items c.status.new.answer.items c.args.number c.args.now c.args.tag.now c.args.command.now
+    (Status c.in-Status.name c.in-Status.items) c.in-Status.is c.status.ensures
+
 pub returns-in-Select : goal.returns-in-Select
 returns-in-Select g c =
     as_command g.D.Disk.told c.select.result c.args.store.now c.select.new.store c.args.sessions.now c.select.new.sessions c.args.answer.now.items c.select.new.answer.items c.args.number c.args.now c.args.tag.now c.args.command.now
@@ -64,6 +84,10 @@ returns-in_default g c =
       login = c.in_default.not-Login;
       authenticate = c.in_default.not-Authenticate;
       create = c.in_default.not-Create;
+      delete = c.in_default.not-Delete;
+      subscribe = c.in_default.not-Subscribe;
+      unsubscribe = c.in_default.not-Unsubscribe;
+      status = c.in_default.not-Status;
       select = c.in_default.not-Select;
       append = c.in_default.not-Append;
     }))

@@ -1,0 +1,48 @@
+use Rattle.std.proofs.Common.{ℕ, List, codes, sym, subst, ◌∙◌}
+use Rattle.row_store.specs.Holding.{in_row}
+use Rattle.imap_writer.specs.declared.refusals.Refusal.TheVariants.{State as WrongState}
+use Rattle.session_view.specs.Parts.{state_of}
+use Rattle.mail_world.specs.Worlds.{World}
+use Rattle.mail_world.specs.Changes.{Subscribe}
+use Rattle.mail_stands.specs.Stands.{Stands}
+use Rattle.mailbox_core.specs.Calls.{Makes}
+use Rattle.imap_steps.specs.Stepping.{Shared, refused_with}
+use Rattle.imap_steps.specs.Managing.{subscribe}
+use Rattle.imap_steps.specs.Executing.{of_user}
+use Rattle.imap_exec.proofs.Living.{user_is_there}
+use Rattle.imap_exec.proofs.Guarding.{when_user, unless_user}
+use Rattle.imap_exec.proofs.Saying.{executed_as, said_always}
+use Rattle.imap_exec.proofs.Making.{executes_change}
+use Rattle.imap_exec.proofs.subscribe.subscribe.Goals as goal
+
+pub subscribe-made-requires-clause-user : goal.subscribe-made-requires-clause-user
+subscribe-made-requires-clause-user g c =
+    user_is_there c.args.store.now.tables c.args.number c.in-Some.user c.args.sessions.now (sym c.user_of.ensures ∙ c.in-Some.is) c.requires.ready.live
+
+pub returns-in-Some : goal.returns-in-Some
+unfolding subscribe
+returns-in-Some g c =
+    let store = c.args.store.now in
+    let parts = c.args.sessions.now in
+    let tag = c.args.tag.now in
+    let name = c.args.name.now in
+    let state = state_of c.args.number parts in
+    let user = c.in-Some.user in
+    executed_as g.D.Disk.told c.tell_made.result store c.subscribe-made.new.store parts parts c.args.answer.now.items c.tell_made.new.answer.items
+    (λ shared. subscribe shared user tag name) (λ shared. of_user shared tag (state_of c.args.number shared.parts) (λ user. subscribe shared user tag name))
+    (λ (world : World). let shared : Shared = record { world = world; parts = parts } in when_user shared tag state user (λ user. subscribe shared user tag name) (sym c.user_of.ensures ∙ c.in-Some.is))
+    (executes_change g.D.Disk.told c.subscribe-made.result c.tell_made.result store c.subscribe-made.new.store parts c.args.answer.now.items c.tell_made.new.answer.items tag (codes "SUBSCRIBE") c.tell_made.ensures
+    c.subscribe-made.ensures.behaves c.requires.ready (λ world. Subscribe user name) (λ world. tt)
+    (subst (λ (n : List ℕ). (world : World) → Stands in_row store.tables world → Makes g.D.Disk.told c.subscribe-made.result store c.subscribe-made.new.store world (Subscribe user n) tt) c.as_slice.ensures c.subscribe-made.ensures.makes))
+
+pub returns-in-None : goal.returns-in-None
+returns-in-None g c =
+    let store = c.args.store.now in
+    let parts = c.args.sessions.now in
+    let tag = c.args.tag.now in
+    let name = c.args.name.now in
+    let state = state_of c.args.number parts in
+    executed_as g.D.Disk.told c.refuse.result store store parts parts c.args.answer.now.items c.refuse.new.answer.items
+    (λ shared. refused_with shared tag WrongState) (λ shared. of_user shared tag (state_of c.args.number shared.parts) (λ user. subscribe shared user tag name))
+    (λ (world : World). let shared : Shared = record { world = world; parts = parts } in unless_user shared tag state (λ user. subscribe shared user tag name) (sym c.user_of.ensures ∙ c.in-None.is))
+    (said_always g.D.Disk.told c.refuse.result store parts c.args.answer.now.items c.refuse.new.answer.items (λ shared. refused_with shared tag WrongState) c.requires.ready c.refuse.ensures)
