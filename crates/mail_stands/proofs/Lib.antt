@@ -8,6 +8,9 @@ mod Owners
 mod Heading
 mod Deleting
 mod Subscribing
+mod NewNames
+mod Replacing
+mod Renamed
 mod Written
 mod FlagTexts
 mod OneWorld

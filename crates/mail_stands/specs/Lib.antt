@@ -4,6 +4,7 @@ pub mod Stands
 pub mod Leading
 pub mod Refusals
 pub mod RowChanges
+pub mod Renaming
 pub mod Naming
 pub mod Arriving
 pub mod Sameness

@@ -8,9 +8,11 @@
 
 mod arriving;
 mod laws;
+mod renaming;
 
 pub use arriving::{append, message_uids, names_grow};
 pub use laws::{
     add_user, create, delete, entry_rows, mailbox_rows, no_rows_stand, one_world, subscribe,
     take_recents, unsubscribe, user_rows,
 };
+pub use renaming::rename;
