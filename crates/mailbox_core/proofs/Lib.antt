@@ -27,3 +27,7 @@ pub mod Deleted
 pub mod Subscribed
 pub mod Tallied
 pub mod StatusTold
+pub mod NameOrder
+pub mod Fronts
+pub mod Renames
+pub mod PlannedNames

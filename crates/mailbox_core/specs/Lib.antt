@@ -9,3 +9,4 @@ pub mod Summing
 pub mod SummaryRows
 pub mod Listing
 pub mod Statuses
+pub mod Renaming

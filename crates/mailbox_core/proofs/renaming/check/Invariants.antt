@@ -1,0 +1,10 @@
+use Rattle.std.specs.Option.{option_copied}
+use Rattle.mailbox_core.proofs.Renames.{IsChecked}
+use Rattle.mailbox_core.proofs.Walking.{left_of}
+use Rattle.mailbox_core.proofs.renaming.check.Given as goal
+
+abbrev pub invariant-rows : goal.invariant-rows
+invariant-rows l = IsChecked l.tables l.owner l.from l.to l.are_taken (option_copied l.next)
+
+abbrev pub decreases-rows : goal.decreases-rows
+decreases-rows l = left_of l.tables l.owner (option_copied l.next)
