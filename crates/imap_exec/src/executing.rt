@@ -12,6 +12,7 @@ use crate::create::create;
 use crate::delete::delete;
 use crate::lines::complete;
 use crate::login::login;
+use crate::rename::rename;
 use crate::select::select;
 use crate::simple::{capability, check, logout, unserved};
 use crate::status::status;
@@ -90,6 +91,8 @@ fn execute_tagged<D: Disk>(
         }
         Command::Status { name, items } => {
             status(alloc, store, sessions, number, answer, tag, name, items)
+        Command::Rename { from, to } => {
+            rename(alloc, store, sessions, number, answer, tag, from, to)
         }
         Command::Select {
             name,

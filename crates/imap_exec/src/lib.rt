@@ -15,6 +15,7 @@ mod greeting;
 mod lines;
 mod login;
 mod plain_lines;
+mod rename;
 mod select;
 mod simple;
 mod status;

@@ -6,7 +6,7 @@ use Rattle.imap_grammar.specs.Classes.{is_atom_byte}
 use Rattle.imap_grammar.specs.declared.flags.Flag.{Flag}
 use Rattle.imap_grammar.specs.declared.flags.Flag.TheVariants.{Flagged, Seen, Keyword}
 use Rattle.imap_grammar.specs.declared.commands.Command.{Command}
-use Rattle.imap_grammar.specs.declared.commands.Command.TheVariants.{Check, Close, Login, Select, Create, List as ListNames, Append, Noop, Delete, Subscribe, Unsubscribe, Status}
+use Rattle.imap_grammar.specs.declared.commands.Command.TheVariants.{Check, Close, Login, Select, Create, List as ListNames, Append, Noop, Delete, Subscribe, Unsubscribe, Status, Rename}
 use Rattle.imap_writer.specs.Tagged.{ok_line, no_line}
 use Rattle.imap_writer.specs.Flags.{flag_list_of}
 use Rattle.imap_writer.specs.Texts.{text_of}
@@ -22,7 +22,7 @@ use Rattle.mailbox_names.specs.Listing.{listed}
 use Rattle.mail_world.specs.Names.{inbox, is_mailbox_name, created_name}
 use Rattle.mail_world.specs.Worlds.{Mailbox, Entry}
 use Rattle.mail_world.specs.Users.{new_mailbox}
-use Rattle.mail_world.specs.Changes.{Create as Creates, Delete as Deletes, Subscribe as Subscribes, Unsubscribe as Unsubscribes, TakeRecents}
+use Rattle.mail_world.specs.Changes.{Create as Creates, Delete as Deletes, Subscribe as Subscribes, Unsubscribe as Unsubscribes, TakeRecents, Rename as Renames}
 use Rattle.mail_world.specs.Applying.{refused}
 use Rattle.imap_steps.specs.Stepping.{Shared, Stepped}
 use Rattle.imap_steps.specs.LoggingIn.{credentials}
@@ -31,6 +31,7 @@ use Rattle.imap_steps.specs.Appending.{create, append, unfit}
 use Rattle.imap_steps.specs.Listing.{list}
 use Rattle.imap_steps.specs.Managing.{delete, subscribe, unsubscribe}
 use Rattle.imap_steps.specs.Status.{status}
+use Rattle.imap_steps.specs.Renaming.{rename}
 use Rattle.imap_steps.specs.Executing.{executed}
 
 -- alice, whose id is 1, with this INBOX, and one session of a state
@@ -170,6 +171,17 @@ told : (verifier : List ℕ) (mail : Mail)
     × ((asked (store_of verifier (full_inbox mail) (Known 1)) (Status inbox (Messages ∷ Highest ∷ []))).answer ≡ codes "a BAD syntax\r\n")
 unfolding status status_line text_of ok_line no_line digits
 told verifier mail = (refl, refl, refl, refl)
+-- The new name is looked at first. INBOX is written in any case, and its messages can't be moved yet.
+renamed : (verifier : List ℕ)
+    → ((asked (store_of verifier empty_inbox (Known 1)) (Rename (codes "none") (codes "a//b"))).answer ≡ codes "a NO [CANNOT] bad name\r\n")
+    × ((asked (store_of verifier empty_inbox (Known 1)) (Rename (codes "none") (codes "work"))).answer ≡ codes "a NO [NONEXISTENT] no such mailbox\r\n")
+    × ((asked (store_of verifier empty_inbox Fresh) (Rename (codes "none") (codes "work"))).answer ≡ codes "a BAD state\r\n")
+    × ((asked (store_of verifier empty_inbox (Known 1)) (Rename (codes "Inbox") (codes "work"))).answer ≡ codes "a BAD syntax\r\n")
+    × ((asked (store_of verifier (new_mailbox 1 1 (codes "work")) (Known 1)) (Rename (codes "work") (codes "work"))).answer ≡ codes "a NO [ALREADYEXISTS] mailbox exists\r\n")
+    × ((asked (store_of verifier (new_mailbox 1 1 (codes "work")) (Known 1)) (Rename (codes "work") (codes "play"))).answer ≡ codes "a OK RENAME completed\r\n")
+    × ((asked (store_of verifier (new_mailbox 1 1 (codes "work")) (Known 1)) (Rename (codes "work") (codes "play"))).change ≡ Some (Renames 1 (codes "work") (codes "play")))
+unfolding rename refused is_mailbox_name no_line ok_line
+renamed verifier = (refl, refl, refl, refl, refl, refl, refl)
 
 absent : (verifier : List ℕ)
     → (asked (store_of verifier empty_inbox (Known 1)) (Append (codes "work") (Keyword (codes "later") ∷ Seen ∷ []) None (codes "hi"))).answer

@@ -2,7 +2,7 @@
 use Rattle.std.specs.Prelude.{ℕ, not, Bool, true, false, List, [], ◌++◌, Option, Some, None, Result, Ok, Err, codes, if◌then◌else◌}
 use Rattle.std.specs.List.{list_any}
 use Rattle.imap_grammar.specs.declared.commands.Command.{Command}
-use Rattle.imap_grammar.specs.declared.commands.Command.TheVariants.{Capability, Noop, Logout, Check, Login, Authenticate, Create, List as ListNames, Append, Select, Delete, Subscribe, Unsubscribe, Status}
+use Rattle.imap_grammar.specs.declared.commands.Command.TheVariants.{Capability, Noop, Logout, Check, Login, Authenticate, Create, List as ListNames, Append, Select, Delete, Subscribe, Unsubscribe, Status, Rename}
 use Rattle.imap_grammar.specs.declared.commands.Tagged.{Tagged}
 use Rattle.imap_grammar.specs.declared.commands.Bad.{Bad}
 use Rattle.imap_grammar.specs.declared.commands.Bad.TheVariants.{WithTag, NoTag}
@@ -20,6 +20,8 @@ use Rattle.imap_steps.specs.Appending.{create, append}
 use Rattle.imap_steps.specs.Listing.{list}
 use Rattle.imap_steps.specs.Managing.{delete, subscribe, unsubscribe}
 use Rattle.imap_steps.specs.Status.{status, is_highest}
+use Rattle.imap_steps.specs.Renaming.{rename}
+use Rattle.mail_world.specs.Names.{is_inbox}
 
 -- ---- when a command may be given
 
@@ -70,6 +72,10 @@ select_plainly shared number tag state name examine true resync = unserved share
 abbrev pub status_plainly : Shared → List ℕ → State → List ℕ → List StatusItem → Stepped
 status_plainly shared tag state name items =
     if list_any is_highest items then unserved shared tag else of_user shared tag state (λ user. status shared user tag name items)
+-- RENAME of another mailbox than INBOX; that of its messages isn't served yet (RFC 3501 §6.3.5)
+abbrev pub rename_plainly : Shared → List ℕ → State → List ℕ → List ℕ → Stepped
+rename_plainly shared tag state from to =
+    if is_inbox from then unserved shared tag else of_user shared tag state (λ user. rename shared user tag from to)
 
 -- What a command with its tag does in a session of a state.
 abbrev pub commanded : Shared → ℕ → State → List ℕ → Command → ℕ → Stepped
@@ -84,6 +90,7 @@ commanded shared number state tag (Delete name) now = of_user shared tag state (
 commanded shared number state tag (Subscribe name) now = of_user shared tag state (λ user. subscribe shared user tag name)
 commanded shared number state tag (Unsubscribe name) now = of_user shared tag state (λ user. unsubscribe shared user tag name)
 commanded shared number state tag (Status name items) now = status_plainly shared tag state name items
+commanded shared number state tag (Rename from to) now = rename_plainly shared tag state from to
 commanded shared number state tag (Select name examine condstore resync) now = select_plainly shared number tag state name examine condstore resync
 commanded shared number state tag (Append name flags date text) now = of_user shared tag state (λ user. append shared user tag name flags date text now)
 commanded shared number state tag Check now = while_selected shared tag state (completed shared tag (codes "CHECK"))

@@ -5,5 +5,6 @@ pub mod Appending
 pub mod Listing
 pub mod Managing
 pub mod Status
+pub mod Renaming
 pub mod Executing
 pub mod Step

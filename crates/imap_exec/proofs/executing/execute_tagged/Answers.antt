@@ -1,5 +1,5 @@
 use Rattle.std.proofs.Common.{codes}
-use Rattle.imap_grammar.specs.declared.commands.Command.TheVariants.{Capability, Noop, Logout, Check, Authenticate, Create, Delete, Subscribe, Unsubscribe, Status, Append, Select}
+use Rattle.imap_grammar.specs.declared.commands.Command.TheVariants.{Capability, Noop, Logout, Check, Authenticate, Create, Delete, Subscribe, Unsubscribe, Status, Append, Select, Rename}
 use Rattle.session_view.specs.Parts.{state_of}
 use Rattle.imap_steps.specs.Stepping.{completed}
 use Rattle.imap_steps.specs.Executing.{capability, commanded, logout, unserved, while_selected}
@@ -59,6 +59,10 @@ pub returns-in-Status : goal.returns-in-Status
 returns-in-Status g c =
     as_command g.D.Disk.told c.status.result c.args.store.now c.args.store.now c.args.sessions.now c.args.sessions.now c.args.answer.now.items c.status.new.answer.items c.args.number c.args.now c.args.tag.now c.args.command.now
     (Status c.in-Status.name c.in-Status.items) c.in-Status.is c.status.ensures
+pub returns-in-Rename : goal.returns-in-Rename
+returns-in-Rename g c =
+    as_command g.D.Disk.told c.rename.result c.args.store.now c.rename.new.store c.args.sessions.now c.args.sessions.now c.args.answer.now.items c.rename.new.answer.items c.args.number c.args.now c.args.tag.now c.args.command.now
+    (Rename c.in-Rename.from c.in-Rename.to) c.in-Rename.is c.rename.ensures
 
 pub returns-in-Select : goal.returns-in-Select
 returns-in-Select g c =
@@ -88,6 +92,7 @@ returns-in_default g c =
       subscribe = c.in_default.not-Subscribe;
       unsubscribe = c.in_default.not-Unsubscribe;
       status = c.in_default.not-Status;
+      rename = c.in_default.not-Rename;
       select = c.in_default.not-Select;
       append = c.in_default.not-Append;
     }))
