@@ -46,10 +46,6 @@ module _ (shared : Shared) (number now : ℕ) (state : State) (tag : List ℕ) w
   unserved_else Close other = refl
   unserved_else Expunge other = refl
   unserved_else (Enable a) other = refl
-  unserved_else (Rename a b) other = refl
-  unserved_else (Delete a) other = refl
-  unserved_else (Subscribe a) other = refl
-  unserved_else (Unsubscribe a) other = refl
   unserved_else (ListNames a b x) other = refl
   unserved_else (Store a b x y z u) other = refl
   unserved_else (Fetch a b x y z) other = refl

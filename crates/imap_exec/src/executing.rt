@@ -91,6 +91,7 @@ fn execute_tagged<D: Disk>(
         }
         Command::Status { name, items } => {
             status(alloc, store, sessions, number, answer, tag, name, items)
+        }
         Command::Rename { from, to } => {
             rename(alloc, store, sessions, number, answer, tag, from, to)
         }

@@ -72,6 +72,7 @@ select_plainly shared number tag state name examine true resync = unserved share
 abbrev pub status_plainly : Shared → List ℕ → State → List ℕ → List StatusItem → Stepped
 status_plainly shared tag state name items =
     if list_any is_highest items then unserved shared tag else of_user shared tag state (λ user. status shared user tag name items)
+
 -- RENAME of another mailbox than INBOX; that of its messages isn't served yet (RFC 3501 §6.3.5)
 abbrev pub rename_plainly : Shared → List ℕ → State → List ℕ → List ℕ → Stepped
 rename_plainly shared tag state from to =

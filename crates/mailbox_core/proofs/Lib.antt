@@ -21,6 +21,7 @@ pub mod Words
 pub mod KeywordSets
 pub mod Summed
 pub mod Walking
+pub mod FollowedNames
 pub mod NameRows
 pub mod Unchanged
 pub mod Deleted

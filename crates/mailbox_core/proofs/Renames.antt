@@ -15,7 +15,7 @@ use Rattle.mail_world.specs.Changes.{BadName, Exists}
 use Rattle.mail_stands.specs.Renaming.{CanRename, IsRenamed, is_long, is_taken, rename_changes, with_new_name}
 use Rattle.mailbox_core.specs.declared.faults.MailFault.{MailFault}
 use Rattle.mailbox_core.specs.Renaming.{IsNextUnder, IsTested, Renames, TellsRefusal}
-use Rattle.mailbox_core.proofs.Walking.{Walks, walks_all, walks_first, walks_on}
+use Rattle.mailbox_core.proofs.FollowedNames.{Walks, walks_all, walks_first, walks_on}
 
 -- ---- tests
 

@@ -59,6 +59,7 @@ pub returns-in-Status : goal.returns-in-Status
 returns-in-Status g c =
     as_command g.D.Disk.told c.status.result c.args.store.now c.args.store.now c.args.sessions.now c.args.sessions.now c.args.answer.now.items c.status.new.answer.items c.args.number c.args.now c.args.tag.now c.args.command.now
     (Status c.in-Status.name c.in-Status.items) c.in-Status.is c.status.ensures
+
 pub returns-in-Rename : goal.returns-in-Rename
 returns-in-Rename g c =
     as_command g.D.Disk.told c.rename.result c.args.store.now c.rename.new.store c.args.sessions.now c.args.sessions.now c.args.answer.now.items c.rename.new.answer.items c.args.number c.args.now c.args.tag.now c.args.command.now

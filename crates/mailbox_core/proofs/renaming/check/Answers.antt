@@ -3,7 +3,7 @@ use Rattle.std.specs.Option.{option_copied}
 use Rattle.row_tables.specs.declared.heads.Mailbox.{Mailbox}
 use Rattle.mailbox_core.specs.Renaming.{IsNextUnder}
 use Rattle.mailbox_core.proofs.Renames.{IsChecked, checked_first, checked_more}
-use Rattle.mailbox_core.proofs.Walking.{fewer_left, left_of}
+use Rattle.mailbox_core.proofs.FollowedNames.{fewer_left, left_of}
 use Rattle.mailbox_core.proofs.renaming.check.Goals as goal
 use Rattle.mailbox_core.proofs.renaming.check.Goals.{then-are_taken, else-are_taken}
 

@@ -1,6 +1,6 @@
 use Rattle.std.specs.Option.{option_copied}
 use Rattle.mailbox_core.proofs.Renames.{IsChecked}
-use Rattle.mailbox_core.proofs.Walking.{left_of}
+use Rattle.mailbox_core.proofs.FollowedNames.{left_of}
 use Rattle.mailbox_core.proofs.renaming.check.Given as goal
 
 abbrev pub invariant-rows : goal.invariant-rows
