@@ -10,3 +10,4 @@ pub mod Placing
 pub mod Summarized
 pub mod Selected
 pub mod Numbered
+pub mod Listing

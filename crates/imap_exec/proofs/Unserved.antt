@@ -24,6 +24,7 @@ pub record IsOther (command : Command) : Type 0 where
   pub unsubscribe : (name : List ℕ) → command ≡ Unsubscribe name → ⊥
   pub status : (name : List ℕ) (items : List StatusItem) → command ≡ Status name items → ⊥
   pub rename : (from to : List ℕ) → command ≡ Rename from to → ⊥
+  pub list : (reference name : List ℕ) (subscribed : Bool) → command ≡ ListNames reference name subscribed → ⊥
   pub select : (name : List ℕ) (examine condstore : Bool) (resync : Option Resync) → command ≡ Select name examine condstore resync → ⊥
   pub append : (name : List ℕ) (flags : List Flag) (stamp : Option Stamp) (text : List ℕ) → command ≡ Append name flags stamp text → ⊥
 
@@ -41,12 +42,12 @@ module _ (shared : Shared) (number now : ℕ) (state : State) (tag : List ℕ) w
   unserved_else (Unsubscribe a) other = absurd (other.unsubscribe a refl)
   unserved_else (Status a b) other = absurd (other.status a b refl)
   unserved_else (Rename a b) other = absurd (other.rename a b refl)
+  unserved_else (ListNames a b x) other = absurd (other.list a b x refl)
   unserved_else (Select a b x y) other = absurd (other.select a b x y refl)
   unserved_else (Append a b x y) other = absurd (other.append a b x y refl)
   unserved_else Close other = refl
   unserved_else Expunge other = refl
   unserved_else (Enable a) other = refl
-  unserved_else (ListNames a b x) other = refl
   unserved_else (Store a b x y z u) other = refl
   unserved_else (Fetch a b x y z) other = refl
   unserved_else (Search a b x) other = refl

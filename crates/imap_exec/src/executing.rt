@@ -11,6 +11,7 @@ use crate::authenticate::authenticate;
 use crate::create::create;
 use crate::delete::delete;
 use crate::lines::complete;
+use crate::list::list;
 use crate::login::login;
 use crate::rename::rename;
 use crate::select::select;
@@ -95,6 +96,21 @@ fn execute_tagged<D: Disk>(
         Command::Rename { from, to } => {
             rename(alloc, store, sessions, number, answer, tag, from, to)
         }
+        Command::List {
+            reference,
+            name,
+            subscribed,
+        } => list(
+            alloc,
+            store,
+            sessions,
+            number,
+            answer,
+            tag,
+            reference,
+            name,
+            *subscribed,
+        ),
         Command::Select {
             name,
             examine,

@@ -13,6 +13,7 @@ mod delete;
 mod executing;
 mod greeting;
 mod lines;
+mod list;
 mod login;
 mod plain_lines;
 mod rename;

@@ -1,5 +1,5 @@
 use Rattle.std.proofs.Common.{codes}
-use Rattle.imap_grammar.specs.declared.commands.Command.TheVariants.{Capability, Noop, Logout, Check, Authenticate, Create, Delete, Subscribe, Unsubscribe, Status, Append, Select, Rename}
+use Rattle.imap_grammar.specs.declared.commands.Command.TheVariants.{Capability, Noop, Logout, Check, Authenticate, Create, Delete, Subscribe, Unsubscribe, Status, Append, Select, Rename, List as ListNames}
 use Rattle.session_view.specs.Parts.{state_of}
 use Rattle.imap_steps.specs.Stepping.{completed}
 use Rattle.imap_steps.specs.Executing.{capability, commanded, logout, unserved, while_selected}
@@ -65,6 +65,11 @@ returns-in-Rename g c =
     as_command g.D.Disk.told c.rename.result c.args.store.now c.rename.new.store c.args.sessions.now c.args.sessions.now c.args.answer.now.items c.rename.new.answer.items c.args.number c.args.now c.args.tag.now c.args.command.now
     (Rename c.in-Rename.from c.in-Rename.to) c.in-Rename.is c.rename.ensures
 
+pub returns-in-List : goal.returns-in-List
+returns-in-List g c =
+    as_command g.D.Disk.told c.list.result c.args.store.now c.args.store.now c.args.sessions.now c.args.sessions.now c.args.answer.now.items c.list.new.answer.items c.args.number c.args.now c.args.tag.now c.args.command.now
+    (ListNames c.in-List.reference c.in-List.name c.in-List.subscribed) c.in-List.is c.list.ensures
+
 pub returns-in-Select : goal.returns-in-Select
 returns-in-Select g c =
     as_command g.D.Disk.told c.select.result c.args.store.now c.select.new.store c.args.sessions.now c.select.new.sessions c.args.answer.now.items c.select.new.answer.items c.args.number c.args.now c.args.tag.now c.args.command.now
@@ -94,6 +99,7 @@ returns-in_default g c =
       unsubscribe = c.in_default.not-Unsubscribe;
       status = c.in_default.not-Status;
       rename = c.in_default.not-Rename;
+      list = c.in_default.not-List;
       select = c.in_default.not-Select;
       append = c.in_default.not-Append;
     }))
