@@ -44,7 +44,7 @@ use Rattle.mail_stands.proofs.Arrivals.{arrived, arrived_shows}
 
 -- ---- changes one after another
 
-runs_then : (t : TableRows) (changes more : List RowChange) (middle after : TableRows) → Runs t changes middle → Runs middle more after → Runs t (changes ++ more) after
+pub runs_then : (t : TableRows) (changes more : List RowChange) (middle after : TableRows) → Runs t changes middle → Runs middle more after → Runs t (changes ++ more) after
 runs_then t [] more middle after e rest = subst (λ u. Runs u more after) (sym e) rest
 runs_then t (change ∷ changes) more middle after runs rest = (runs.0, runs_then (applied t change) changes more middle after runs.1 rest)
 
@@ -55,7 +55,7 @@ runs_apart t (change ∷ changes) more after runs use_it = runs_apart (applied t
 abbrev pub KeepsOrder : Type 0
 KeepsOrder = (t : TableRows) (change : RowChange) → AreOrdered t → Fits t change → AreOrdered (applied t change)
 
-ordered_along : KeepsOrder → (t : TableRows) (changes : List RowChange) (after : TableRows) → AreOrdered t → Runs t changes after → AreOrdered after
+pub ordered_along : KeepsOrder → (t : TableRows) (changes : List RowChange) (after : TableRows) → AreOrdered t → Runs t changes after → AreOrdered after
 ordered_along order t [] after ordered e = subst AreOrdered e ordered
 ordered_along order t (change ∷ changes) after ordered runs = ordered_along order (applied t change) changes after (order t change ordered runs.0) runs.1
 

@@ -11,7 +11,7 @@ use Rattle.mail_world.specs.Flags.{is_flag, same_flag, has_flag, same_flags}
 use Rattle.mail_stands.specs.Facts.{has_flag_named}
 use Rattle.mail_stands.proofs.Written.{written}
 
-same_itself : (name : List ℕ) → pointwise nat_eq name name ≡ true
+pub same_itself : (name : List ℕ) → pointwise nat_eq name name ≡ true
 same_itself [] = refl
 same_itself (b ∷ bytes) = rw (eq-eqb b b refl) (same_itself bytes)
 

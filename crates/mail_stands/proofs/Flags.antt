@@ -31,7 +31,7 @@ use Rattle.mail_stands.proofs.Owners.{SameKeys}
 
 -- ---- the row that a name finds
 
-found_row : {P : Type 0} (name : List ℕ) (names : List FlagName) (id : ℕ) → flag_name_id name names ≡ Some id → ((r : FlagName) → find (has_flag_name name) names ≡ Some r → r.id ≡ id → P) → P
+pub found_row : {P : Type 0} (name : List ℕ) (names : List FlagName) (id : ℕ) → flag_name_id name names ≡ Some id → ((r : FlagName) → find (has_flag_name name) names ≡ Some r → r.id ≡ id → P) → P
 found_row {P} name names id e use_it = by (find (has_flag_name name) names) refl e
   where
     by : (o : Option FlagName) → find (has_flag_name name) names ≡ o → option_map (λ r. r.id) o ≡ Some id → P
@@ -39,21 +39,21 @@ found_row {P} name names id e use_it = by (find (has_flag_name name) names) refl
     by (Some r) found is = use_it r found (same_Some r.id id is)
 
 -- the row of an id is there
-at_id : InsertLaws flag_name_key → (names : List FlagName) → IsInOrder flag_name_key names → (name : List ℕ) (id : ℕ) (r : FlagName) → find (has_flag_name name) names ≡ Some r → r.id ≡ id → row_at flag_name_key (number_key id) names ≡ Some r
+pub at_id : InsertLaws flag_name_key → (names : List FlagName) → IsInOrder flag_name_key names → (name : List ℕ) (id : ℕ) (r : FlagName) → find (has_flag_name name) names ≡ Some r → r.id ≡ id → row_at flag_name_key (number_key id) names ≡ Some r
 at_id laws names order name id r found is = subst (λ k. row_at flag_name_key (number_key k) names ≡ Some r) is (laws.at_key (has_flag_name name) r names order found)
 
-name_of : (names : List FlagName) (name : List ℕ) (r : FlagName) → find (has_flag_name name) names ≡ Some r → r.name ≡ name
+pub name_of : (names : List FlagName) (name : List ℕ) (r : FlagName) → find (has_flag_name name) names ≡ Some r → r.name ≡ name
 name_of names name r found = (bytes_decides r.name name).0 (find_passes (has_flag_name name) names r found)
 
 -- an id is of one name
-one_name : InsertLaws flag_name_key → (names : List FlagName) → IsInOrder flag_name_key names → (a b : List ℕ) (id : ℕ) → flag_name_id a names ≡ Some id → flag_name_id b names ≡ Some id → a ≡ b
+pub one_name : InsertLaws flag_name_key → (names : List FlagName) → IsInOrder flag_name_key names → (a b : List ℕ) (id : ℕ) → flag_name_id a names ≡ Some id → flag_name_id b names ≡ Some id → a ≡ b
 one_name laws names order a b id e f =
     found_row a names id e (λ r found is. found_row b names id f (λ q there same.
     sym (name_of names a r found) ∙ (ap (λ x. x.name) (same_Some r q (sym (at_id laws names order a id r found is) ∙ at_id laws names order b id q there same)) ∙ name_of names b q there)))
 
 -- ---- the ids of flags
 
-same_bool : (b c : Bool) → (b ≡ true → c ≡ true) → (c ≡ true → b ≡ true) → b ≡ c
+pub same_bool : (b c : Bool) → (b ≡ true → c ≡ true) → (c ≡ true → b ≡ true) → b ≡ c
 same_bool true c h k = sym (h refl)
 same_bool false true h k = k refl
 same_bool false false h k = refl
@@ -71,7 +71,7 @@ module _ (laws : InsertLaws flag_name_key) (names : List FlagName) (order : IsIn
       (λ q. eq-eqb i id (same_Some i id (sym are.0 ∙ (ap (λ n. flag_name_id n names) ((bytes_decides (flag_text flag) name).0 q) ∙ e)))))
       ∙ ap (λ b. same_name (flag_text flag) name || b) (ids_told flags ids are.1 name id e)
 
-  others_differ : (flag : Flag) (id : ℕ) → flag_name_id (flag_text flag) names ≡ Some id → (flags : List Flag) (ids : List ℕ) → AreIds names flags ids
+  pub others_differ : (flag : Flag) (id : ℕ) → flag_name_id (flag_text flag) names ≡ Some id → (flags : List Flag) (ids : List ℕ) → AreIds names flags ids
       → AllByRecursion (λ other. same_name (flag_text flag) (flag_text other) ≡ false) flags → AllByRecursion (λ other. (id == other) ≡ false) ids
   others_differ flag id e [] [] are differ = tt
   others_differ flag id e [] (i ∷ ids) are differ = absurd are
@@ -142,7 +142,7 @@ with_flags mailbox uid (flag ∷ flags) rows = with_flags mailbox uid flags (wit
 abbrev pub flagged : TableRows → ℕ → ℕ → List ℕ → TableRows
 flagged t mailbox uid flags = record t { marks = record t.marks { flags = with_flags mailbox uid flags t.marks.flags } }
 
-none_such : (b c d : Bool) → (c && d) ≡ false → (b && c && d) ≡ false
+pub none_such : (b c d : Bool) → (c && d) ≡ false → (b && c && d) ≡ false
 none_such true c d e = e
 none_such false c d e = refl
 

@@ -20,4 +20,9 @@ mod Staying
 mod Flags
 mod Arrivals
 mod Appending
+mod Among
+mod StoredFlags
+mod StoredIds
+mod Moving
+mod Stored
 mod Examples

@@ -7,4 +7,5 @@ pub mod RowChanges
 pub mod Renaming
 pub mod Naming
 pub mod Arriving
+pub mod Storing
 pub mod Sameness

@@ -2,13 +2,14 @@
 //! standing for the world after a change.
 //!
 //! There is no code here but functions whose contracts are laws of the definitions, which stand in `specs/`: `Stands` says what tables
-//! stand for, `Refusals` why a change is not made as the tables tell it, `RowChanges`, `Naming` and `Arriving` which rows make a
-//! change, `Leading` what they lead to, `Sameness` how far tables tell worlds apart.
+//! stand for, `Refusals` why a change is not made as the tables tell it, `RowChanges`, `Naming`, `Arriving` and `Storing` which rows
+//! make a change, `Leading` what they lead to, `Sameness` how far tables tell worlds apart.
 #![tactic(auto)]
 
 mod arriving;
 mod laws;
 mod renaming;
+mod storing;
 
 pub use arriving::{append, message_uids, names_grow};
 pub use laws::{
@@ -16,3 +17,4 @@ pub use laws::{
     take_recents, unsubscribe, user_rows,
 };
 pub use renaming::rename;
+pub use storing::store_flags;
