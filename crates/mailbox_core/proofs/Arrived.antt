@@ -228,7 +228,7 @@ found_one P x y true r holds behind found = subst P (same_Some x y found) holds
 found_one P x y false r holds behind found = behind found
 
 -- what holds of all holds of the one that is found
-all_found : {X : Type 0} (P : X → Type 0) (p : X → Bool) (xs : List X) (y : X) → AllByRecursion P xs → find p xs ≡ Some y → P y
+pub all_found : {X : Type 0} (P : X → Type 0) (p : X → Bool) (xs : List X) (y : X) → AllByRecursion P xs → find p xs ≡ Some y → P y
 all_found P p [] y all found = absurd (none-some y found)
 all_found P p (x ∷ xs) y all found = found_one P x y (p x) (find p xs) all.0 (all_found P p xs y all.1) found
 

@@ -32,3 +32,5 @@ pub mod NameOrder
 pub mod Fronts
 pub mod Renames
 pub mod PlannedNames
+pub mod StoredPlans
+pub mod StoredCalls

@@ -5,6 +5,7 @@ pub mod Deleting
 pub mod Messages
 pub mod Rooms
 pub mod Appending
+pub mod Storing
 pub mod Summing
 pub mod SummaryRows
 pub mod Listing

@@ -30,7 +30,7 @@ use row_tables::{FlagName, FlagRow, Mailbox, MailboxMessage, RowChange, RowCount
 use std::alloc::{AllocError, Global};
 
 // How many flags a message may have.
-const MOST_FLAGS: usize = 30;
+pub(crate) const MOST_FLAGS: usize = 30;
 
 // How many messages a mailbox may have.
 const MOST_MESSAGES: u64 = 100_000;
@@ -39,7 +39,7 @@ const MOST_MESSAGES: u64 = 100_000;
 const LAST_UID: u32 = u32::MAX - 1;
 
 // The last mod-sequence.
-const LAST_MODSEQ: u64 = u64::MAX - 1;
+pub(crate) const LAST_MODSEQ: u64 = u64::MAX - 1;
 
 // A mailbox in which there is room for a message, the ids of its flags, and the changes that name those of them that are new.
 #[derive(Drop)]
@@ -100,7 +100,7 @@ fn room_in(tables: &Tables, mailbox: u32) -> Result<&Mailbox, MailFault>
 }
 
 // Whether a mailbox has a message with a UID.
-fn has_message(tables: &Tables, mailbox: u32, uid: u32) -> bool
+pub(crate) fn has_message(tables: &Tables, mailbox: u32, uid: u32) -> bool
     ensures { result ≡ is_some (row_at mailbox_message_key (uid_key mailbox uid) tables.now.marks.mailbox_messages) }
 {
     let mut count = RowCount::new();
@@ -138,7 +138,10 @@ fn is_among(flags: &[Flag], flag: &Flag) -> bool
 }
 
 // Flags, each of them once, where it stands first.
-fn distinct_flags<'a>(alloc: Global, flags: &'a [Flag]) -> Result<Vec<&'a Flag>, AllocError>
+pub(crate) fn distinct_flags<'a>(
+    alloc: Global,
+    flags: &'a [Flag],
+) -> Result<Vec<&'a Flag>, AllocError>
     ensures { IfOk result (λ found. map (λ flag. flag.now) found.items ≡ distinct flags.now) }
 {
     let mut found = Vec::with_capacity(alloc, flags.len().min(MOST_FLAGS))?;
@@ -178,7 +181,7 @@ fn is_same(one: &Flag, other: &Flag) -> bool
 }
 
 // A flag as it is written.
-fn text_of(flag: &Flag) -> &[u8]
+pub(crate) fn text_of(flag: &Flag) -> &[u8]
     ensures { result.now ≡ flag_text flag.now }
 {
     match flag {
@@ -193,13 +196,17 @@ fn text_of(flag: &Flag) -> &[u8]
 
 // The ids of flags, and the changes that name those of them that are new.
 #[derive(Drop)]
-struct FlagPlan {
-    ids: Vec<u64>,
-    names: Vec<RowChange>,
+pub(crate) struct FlagPlan {
+    pub(crate) ids: Vec<u64>,
+    pub(crate) names: Vec<RowChange>,
 }
 
 // The ids of flags that differ. Those of new ones are counted from the last on; there is no memory in which all ids were given.
-fn plan_flags(alloc: Global, tables: &Tables, flags: &[&Flag]) -> Result<FlagPlan, AllocError>
+pub(crate) fn plan_flags(
+    alloc: Global,
+    tables: &Tables,
+    flags: &[&Flag],
+) -> Result<FlagPlan, AllocError>
     ensures { IfOk result (λ plan. (next : ℕ) × (rows_from flag_name_key (number_key next) tables.now.marks.flag_names ≡ [])
         × (plan.ids.items ≡ flag_ids next tables.now.marks.flag_names (map (λ flag. flag.now) flags.now))
         × (plan.names.items ≡ flag_namings next tables.now.marks.flag_names (map (λ flag. flag.now) flags.now))) }
@@ -293,7 +300,7 @@ fn arrival_row(row: &Mailbox, message: u64, stamp: Stamp) -> MailboxMessage
 }
 
 // The changes that give a message the flags of these ids.
-fn flag_rows(
+pub(crate) fn flag_rows(
     alloc: Global,
     mailbox: u32,
     uid: u32,
