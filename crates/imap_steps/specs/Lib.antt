@@ -6,5 +6,6 @@ pub mod Listing
 pub mod Managing
 pub mod Status
 pub mod Renaming
+pub mod Storing
 pub mod Executing
 pub mod Step

@@ -20,6 +20,9 @@ message_data_text (Bytes item bytes) = item.now ++ codes " " ++ literal bytes.no
 message_data_text (Absent item) = item.now ++ codes " NIL"
 message_data_text (Printed item text) = item.now ++ codes " " ++ text.now
 
--- The line of a message, by its number.
+-- The line of a message, by its number, with the texts of its items.
+abbrev pub message_line : ℕ → List (List ℕ) → List ℕ
+message_line n items = codes "* " ++ decimal n ++ codes " FETCH (" ++ spaced items ++ codes ")\r\n"
+
 unfoldable pub fetch_line : ℕ → List MessageData → List ℕ
-fetch_line n values = codes "* " ++ decimal n ++ codes " FETCH (" ++ spaced (map message_data_text values) ++ codes ")\r\n"
+fetch_line n values = message_line n (map message_data_text values)
