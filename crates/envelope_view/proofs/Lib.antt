@@ -1,0 +1,6 @@
+mod PartLemmas
+mod LineLemmas
+mod FieldLemmas
+mod SliceLemmas
+mod WrittenLemmas
+mod Examples

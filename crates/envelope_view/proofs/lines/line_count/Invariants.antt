@@ -1,0 +1,12 @@
+use Rattle.std.proofs.Common.{◌≡◌, ◌+◌, length}
+use Rattle.mail_text.specs.Lines.{pieces}
+use Rattle.canon_writer.specs.Counting.{capped}
+use Rattle.envelope_view.specs.Lines.{whole_lines}
+use Rattle.envelope_view.proofs.lines.line_count.Given as goal
+
+-- What is counted, and the text that is left.
+abbrev pub invariant-loop-behind : goal.invariant-loop-behind
+invariant-loop-behind l = capped (l.count + whole_lines (pieces l.rest)) ≡ capped (whole_lines (pieces l.text))
+
+abbrev pub decreases-loop-behind : goal.decreases-loop-behind
+decreases-loop-behind l = length (pieces l.rest)
