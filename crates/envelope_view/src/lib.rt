@@ -1,6 +1,8 @@
 //! What FETCH shows of a message: its envelope, its structure and its sections (RFC 3501 §6.4.5, §7.4.2).
 #![tactic(auto)]
 
+mod boundaries;
+mod counting;
 mod envelopes;
 mod laws;
 mod lines;

@@ -3,31 +3,18 @@ ghost use Rattle.std.specs.Prelude.{◌≡◌, IfOk};
 ghost use Rattle.std.specs.List.{filter};
 ghost use Rattle.std.specs.Option.{option_and_then, option_map};
 ghost use Rattle.header_reader.specs.Kinds.{is_among as is_among_of};
-ghost use Rattle.mime_reader.specs.Kinds.{boundary_of as boundary_of_fields};
 ghost use Rattle.canon_writer.specs.Printing.{print_header};
 ghost use Rattle.envelope_view.specs.Parts.{message_within as message_within_of};
 ghost use Rattle.envelope_view.specs.Sections.{body, is_taken as is_taken_of, of_message as of_message_of, of_part as of_part_of, section_of};
 
+use crate::boundaries::boundary_of;
 use crate::parts::{message_within, part_at};
 use canon_writer::{append_field, write_body, write_header, write_message};
 use imap_grammar::{Section, SectionPart};
 use mail_text::same;
-use mime_reader::{parameter_value, type_of};
 use mime_tree::{Field, Message};
 use octets::Octets;
 use std::alloc::{AllocError, Global};
-
-/// The boundary that fields name; empty where they name none.
-#[tactic(auto, unfolding(mime_reader::specs::Kinds::boundary_of))]
-fn boundary_of(alloc: Global, fields: &[Field]) -> Result<Vec<u8>, AllocError>
-    ensures { IfOk result (λ v. v.items ≡ boundary_of_fields fields.now) }
-{
-    let named = type_of(alloc, false, fields)?;
-    match parameter_value(b"boundary", named.parameters.as_slice()) {
-        Some(value) => value.to_vec(alloc),
-        None => Ok(Vec::new(alloc)),
-    }
-}
 
 /// The body of a message or a part.
 fn body_of(alloc: Global, message: &Message) -> Result<Vec<u8>, AllocError>

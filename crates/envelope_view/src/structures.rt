@@ -1,15 +1,15 @@
 //! The structure of a message.
-ghost use Rattle.std.specs.Prelude.{◌≡◌, ◌++◌, ◌∷◌, [], OnOk, IfOk, Some, decimal, false, flat_map, map};
-ghost use Rattle.std.specs.Option.{option_and_then};
+ghost use Rattle.std.specs.Prelude.{◌≡◌, ◌++◌, OnOk, IfOk, Some, decimal, false, flat_map, map};
 ghost use Rattle.mime_tree.specs.Contents.{content_of, trees_of};
 ghost use Rattle.mime_tree.specs.Trees.Content.{nested};
 ghost use Rattle.mime_reader.specs.Parameters.{token_with_parameters_of};
-ghost use Rattle.canon_writer.specs.Printing.{print, print_leaf};
+ghost use Rattle.canon_writer.specs.Printing.{print_leaf};
 ghost use Rattle.imap_writer.specs.Spaced.{behind_space};
 ghost use Rattle.envelope_view.specs.Structure.{body_fields, capitals, content_structure, default_type as default_type_of, disposition_or_nil, disposition_text, encoding_or_7bit, encoding_text, leaf_structure, leaf_types, multipart_end, multipart_extension, nested_head, parameter_text, parameters_text, parts_structure, place_fields, single_extension, size_of, structure, text_lines, type_of as type_of_fields};
 
+use crate::counting::message_lines;
 use crate::envelopes::push_envelope;
-use crate::lines::{leaf_lines, message_lines};
+use crate::lines::leaf_lines;
 use crate::values::push_field_behind;
 use canon_writer::{printed_size, size_within};
 use imap_writer::{push_number, push_text};
@@ -185,7 +185,6 @@ fn push_body_fields_behind(
 /// The lines of a text; of other bytes they aren't told.
 #[tactic(auto, unfolding(crate::specs::Structure::text_lines))]
 fn push_text_lines(
-    alloc: Global,
     out: &mut Vec<u8>,
     kind: &ContentType,
     encoding: Encoding,
@@ -197,7 +196,7 @@ fn push_text_lines(
         return Ok(());
     }
     out.extend_from_slice(b" ")?;
-    push_number(out, leaf_lines(alloc, encoding, bytes)? as u64)
+    push_number(out, leaf_lines(encoding, bytes) as u64)
 }
 
 fn push_found(
@@ -313,7 +312,7 @@ fn push_leaf(
 {
     push_leaf_types(alloc, out, kind)?;
     push_body_fields_behind(alloc, out, kind, fields, size)?;
-    push_text_lines(alloc, out, kind, encoding, bytes)?;
+    push_text_lines(out, kind, encoding, bytes)?;
     push_single_extension(alloc, out, extended, fields)
 }
 
@@ -333,7 +332,8 @@ fn push_nested_head(
     push_envelope(alloc, out, &inner.fields)
 }
 
-/// Writes the structure of a message behind what is there: BODY, or with extension data BODYSTRUCTURE (RFC 3501 §7.4.2).
+/// Writes the structure of a message behind what is there: BODY, or with extension data BODYSTRUCTURE (RFC 3501 §7.4.2). Sizes and
+/// lines are told without the print; memory goes with the fields.
 pub fn push_structure(
     alloc: Global,
     out: &mut Vec<u8>,
