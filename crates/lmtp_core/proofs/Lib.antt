@@ -1,0 +1,4 @@
+mod LineLemmas
+mod ReadLemmas
+mod TextLemmas
+mod Examples
