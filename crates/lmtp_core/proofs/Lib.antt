@@ -1,4 +1,5 @@
 mod LineLemmas
 mod ReadLemmas
 mod TextLemmas
+mod CommandLemmas
 mod Examples

@@ -1,6 +1,8 @@
-//! Laws of lines and texts.
-ghost use Rattle.std.specs.Prelude.{ℕ, ◌≡◌, ◌+◌, ◌++◌, List, Some, None, false, length, drop, map};
-ghost use Rattle.std.specs.List.{flat_map};
+//! Laws of lines, texts and recipients.
+ghost use Rattle.std.specs.Prelude.{ℕ, ◌≡◌, ◌≢◌, ◌+◌, ◌++◌, List, [], Some, None, codes, false, length, drop, map};
+ghost use Rattle.std.specs.Char.{to_ascii_lowercase};
+ghost use Rattle.std.specs.List.{AllPass, flat_map};
+ghost use Rattle.lmtp_core.specs.Commands.{asked, is_domain_byte, is_local_byte};
 ghost use Rattle.lmtp_core.specs.Lines.{Line, first_line, line_behind, line_end};
 ghost use Rattle.lmtp_core.specs.Texts.{AreLines, Text, bounded, content, dotted, first_text, sent};
 ghost use Rattle.lmtp_core.specs.Reading.{Read, is_end, reads, taken, unread};
@@ -38,3 +40,11 @@ pub fn texts_are_read_as_sent()
 {
     law_lines();
 }
+
+/// The law that a recipient is asked for as it was written, with a domain and without one.
+pub fn recipients_are_asked_as_written()
+    ensures local { (local : List ℕ) → local ≢ [] → AllPass is_local_byte local
+        → asked (codes "RCPT TO:<" ++ local ++ codes ">\r\n") ≡ Some (map to_ascii_lowercase local) }
+    ensures domain { (local domain : List ℕ) → local ≢ [] → AllPass is_local_byte local → AllPass is_domain_byte domain
+        → asked (codes "RCPT TO:<" ++ local ++ codes "@" ++ domain ++ codes ">\r\n") ≡ Some (map to_ascii_lowercase local) }
+{}

@@ -15,7 +15,10 @@ mod replies;
 mod session;
 
 pub use commands::{Command, asked, read_command};
-pub use laws::{lines_end_where_they_end, texts_are_read_as_sent, texts_are_read_whole};
+pub use laws::{
+    lines_end_where_they_end, recipients_are_asked_as_written, texts_are_read_as_sent,
+    texts_are_read_whole,
+};
 pub use lines::{LineLexer, LineShown};
 pub use reading::TextLexer;
 pub use replies::Reply;

@@ -1,5 +1,5 @@
 //! A reader of texts that is fed slices.
-ghost use Rattle.std.specs.Prelude.{◌≡◌, ◌-◌, ◌<◌, false, length, IfOk, OnOk, OnErr, MatchOption};
+ghost use Rattle.std.specs.Prelude.{◌≡◌, ◌-◌, ◌<◌, ◌≤◌, false, length, IfOk, OnOk, OnErr, MatchOption};
 ghost use Rattle.lmtp_core.specs.Reading.{HasRoom, Takes, ends_return, is_end, read_at, reads, room_for, taken, unread, within_line};
 
 use crate::kept::Kept;
@@ -111,6 +111,7 @@ fn take_some(kept: &mut Kept, place: Place, rest: &[u8]) -> Step
 /// Takes the bytes of a piece, as far as the text goes.
 fn take_all(kept: &mut Kept, place: Place, piece: &[u8]) -> Step
     requires { HasRoom kept.old (room_for place (length piece.now)) }
+    ensures within { result.count ≤ length piece.now }
     ensures count { result.count ≡ taken (read_at place kept.old) piece.now }
     ensures read { read_at result.place kept.new ≡ reads (read_at place kept.old) piece.now }
 {
@@ -156,6 +157,7 @@ impl TextLexer {
     /// them grows twofold, and is given back as soon as the content is too long. Where there is no memory, no byte is
     /// taken, and the piece may be fed again.
     pub fn feed(&mut self, piece: &[u8]) -> Result<usize, AllocError>
+        ensures within { IfOk result (λ n. n ≤ length piece.now) }
         ensures taken { IfOk result (λ n. n ≡ taken self.old piece.now) }
         ensures read { OnOk result (self.new ≡ reads self.old piece.now) }
         ensures unchanged { OnErr result (self.new ≡ self.old) }
