@@ -130,12 +130,18 @@ listed_names : (verifier : List ℕ)
     × ((asked (of_names verifier) (ListNames (codes "b") (codes "*") true)).answer ≡ codes "* LSUB () \"/\" \"b/c\"\r\na OK LSUB completed\r\n")
 unfolding list listed matches list_line text_of ok_line
 listed_names verifier = (refl, refl, refl, refl, refl, refl)
+
 -- alice with INBOX and `work`, which she subscribes, and two sessions, of which the second has a state
 abbrev two_mailboxes : List ℕ → State → Shared
 two_mailboxes verifier state = record {
+  world = record {
+    users = record { id = 1; name = codes "alice"; verifier = verifier } ∷ [];
     mailboxes = empty_inbox ∷ new_mailbox 2 1 (codes "work") ∷ [];
     subscriptions = record { owner = 1; name = codes "work" } ∷ [];
+    next = 3;
+  };
   parts = record { number = 1; state = Known 1 } ∷ record { number = 2; state = state } ∷ [];
+}
 
 abbrev has_selected : ℕ → State
 has_selected mailbox = Selected 1 (record { mailbox = mailbox; read_write = false; view = record { uids = []; recent = [] } })
@@ -171,6 +177,7 @@ told : (verifier : List ℕ) (mail : Mail)
     × ((asked (store_of verifier (full_inbox mail) (Known 1)) (Status inbox (Messages ∷ Highest ∷ []))).answer ≡ codes "a BAD syntax\r\n")
 unfolding status status_line text_of ok_line no_line digits
 told verifier mail = (refl, refl, refl, refl)
+
 -- The new name is looked at first. INBOX is written in any case, and its messages can't be moved yet.
 renamed : (verifier : List ℕ)
     → ((asked (store_of verifier empty_inbox (Known 1)) (Rename (codes "none") (codes "a//b"))).answer ≡ codes "a NO [CANNOT] bad name\r\n")
