@@ -2,6 +2,8 @@
 #![tactic(auto)]
 
 #[cfg(test)]
+mod crash_tests;
+#[cfg(test)]
 mod mail_server_tests;
 #[cfg(test)]
 mod port_model_tests;

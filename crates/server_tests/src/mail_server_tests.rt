@@ -330,10 +330,58 @@ fn wrapped(alloc: Global, reason: &str, base64: &str) -> Result<String, AllocErr
     )
 }
 
+// A usual mail, as it is sent: two parts, of which one is an attachment.
+const USUAL_MAIL: &[u8] = b"From: \"Doe, Jane\" <jane@example.org>\n\
+    To: Alice <alice@example.com>\n\
+    Subject: =?utf-8?Q?Gr=C3=BC=C3=9Fe?=\n\
+    Date: Tue, 1 Jul 2003 10:52:37 +0200\n\
+    Message-ID: <m1@example.org>\n\
+    MIME-Version: 1.0\n\
+    Content-Type: multipart/mixed; boundary=\"b1\"\n\
+    \n\
+    This is a multi-part message in MIME format.\n\
+    --b1\n\
+    Content-Type: text/plain; charset=utf-8; format=flowed\n\
+    Content-Transfer-Encoding: quoted-printable\n\
+    \n\
+    Gr=C3=BC=C3=9Fe\n\
+    --b1\n\
+    Content-Type: image/png; name=\"p.png\"\n\
+    Content-Transfer-Encoding: base64\n\
+    Content-Disposition: attachment; filename=\"p.png\"\n\
+    \n\
+    iVBORw0KGgo=\n\
+    \n\
+    --b1--\n";
+
+// The same in canonical form: without a preamble, and with two digits for the day.
+const USUAL_TEXT: &[u8] = b"From: \"Doe, Jane\" <jane@example.org>\r\n\
+    To: Alice <alice@example.com>\r\n\
+    Subject: =?utf-8?Q?Gr=C3=BC=C3=9Fe?=\r\n\
+    Date: Tue, 01 Jul 2003 10:52:37 +0200\r\n\
+    Message-ID: <m1@example.org>\r\n\
+    MIME-Version: 1.0\r\n\
+    Content-Type: multipart/mixed; boundary=\"b1\"\r\n\
+    \r\n\
+    --b1\r\n\
+    Content-Type: text/plain; charset=utf-8; format=flowed\r\n\
+    Content-Transfer-Encoding: quoted-printable\r\n\
+    \r\n\
+    Gr=C3=BC=C3=9Fe\r\n\
+    --b1\r\n\
+    Content-Type: image/png; name=\"p.png\"\r\n\
+    Content-Transfer-Encoding: base64\r\n\
+    Content-Disposition: attachment; filename=\"p.png\"\r\n\
+    \r\n\
+    iVBORw0KGgo=\r\n\
+    \r\n\
+    --b1--\r\n";
+
 // Messages, and what `canon` writes of them: folded at 78 bytes a line, each line with its CRLF.
 #[test]
 fn messages_are_written_in_canonical_form(rt: HostRuntime) -> Result<(), Fail> {
-    let cases: [(&[u8], &[u8]); 9] = [
+    let cases: [(&[u8], &[u8]); 10] = [
+        (USUAL_MAIL, USUAL_TEXT),
         (b"A:  b\n\nc\n", b"A: b\r\n\r\nc\r\n"),
         (b"", b"\r\n"),
         // A field that comes twice stays twice, a value that is empty stays so, and blanks at its ends go.
