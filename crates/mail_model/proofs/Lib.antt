@@ -4,3 +4,4 @@ pub mod Changes
 pub mod HandedOut
 pub mod Between
 pub mod Joining
+pub mod Behind

@@ -2,3 +2,4 @@ pub mod Machine
 pub mod Pieces
 pub mod Changes
 pub mod Between
+pub mod HandedOut

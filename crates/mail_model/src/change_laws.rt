@@ -4,8 +4,9 @@ ghost use Rattle.std.specs.Prelude.{ℕ, ◌≡◌, ◌+◌, ◌<◌, ◌≤◌,
 ghost use Rattle.port_model.specs.declared.calls.PortCall.{PortCall};
 ghost use Rattle.port_model.specs.History.{PortEvent, sent};
 ghost use Rattle.imap_steps.specs.Stepping.{Shared, Stepped, World, after_step, changed};
-ghost use Rattle.mail_model.specs.Machine.{IsHandedOut, Machine, Made, Session, Taking, after_unit, leaves, machine, opens, takes};
+ghost use Rattle.mail_model.specs.Machine.{IsHandedOut, Machine, Made, Session, Taking, after, after_unit, leaves, machine, opens, takes};
 ghost use Rattle.mail_model.specs.Changes.{AllWithin, Records, Told, and_told, folded, tells, told};
+ghost use Rattle.mail_model.specs.HandedOut.{AllBehind, ChangesOnTop, NoneHandedOut, SendsAnswered};
 
 /// Laws of a step: its change comes on top, with its answer, whatever the step and whatever was answered before it in
 /// the same piece.
@@ -32,4 +33,13 @@ pub fn changes_stand_by_their_answers()
 pub fn handed_out_stays()
     ensures later { (newer older : List PortCall) (made : Made) → IsHandedOut older made → IsHandedOut (newer ++ older) made }
     ensures whole { (history : List PortCall) (made : Made) → 0 < made.count → made.from + made.count ≤ length (sent history made.number) → IsHandedOut history made }
+{}
+
+/// Laws of the machine: what later events change comes on top, so that the changes of earlier events are a prefix of them,
+/// and is answered behind all that was answered before. So where all that was sent had been answered by then, none of the later
+/// changes is handed out.
+pub fn later_changes_stand_behind()
+    ensures on_top { (world : World) (newer older : List PortEvent) → ChangesOnTop (machine world older) (machine world (newer ++ older)) }
+    ensures none { (first : World) (before later : List PortCall) (made : List Made) → SendsAnswered first before later → AllBehind (after first before).out made
+        → NoneHandedOut later made }
 {}

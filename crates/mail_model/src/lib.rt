@@ -9,7 +9,8 @@ mod laws;
 mod standing;
 
 pub use change_laws::{
-    changes_stand_by_their_answers, handed_out_stays, steps_record_their_changes,
+    changes_stand_by_their_answers, handed_out_stays, later_changes_stand_behind,
+    steps_record_their_changes,
 };
 pub use laws::{
     answers_only_grow, closing_takes_leave, cuts_whatever_happens_between,

@@ -6,3 +6,4 @@ pub mod Chains
 pub mod Making
 pub mod Crashes
 pub mod Halfway
+pub mod Handing

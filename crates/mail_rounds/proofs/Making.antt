@@ -21,7 +21,7 @@ use Rattle.mail_rounds.specs.CoreSeen.{CoreSeen}
 use Rattle.mail_rounds.specs.Crashes.{GreetingCrashes, MachineCrashes}
 use Rattle.mail_rounds.specs.Heard.{Hearing, Offering}
 use Rattle.mail_rounds.specs.Held.{Held, session_of, queue_of, due_of, AsksPart, AtEach, AtLink, AtPlace, Ascending}
-use Rattle.mail_rounds.specs.Calls.{Due, GoesOn, Offers, Closes, ClosesEmpty, Asks, Accepts, Flushes, Rounds, RoundsPart, Takes, TakesPart, TakesSome, unsent, due_to, dues, is_lost}
+use Rattle.mail_rounds.specs.Calls.{Due, GoesOn, Offers, Closes, ClosesEmpty, Asks, Accepts, Flushes, Takes, TakesPart, TakesSome, unsent, due_to, dues, is_lost}
 use Rattle.mail_rounds.specs.Serves.{Answered, Begins, Does, Opens, Serves}
 use Rattle.mail_rounds.proofs.Kept.{apart, same}
 use Rattle.mail_rounds.proofs.Chains.{chain_more}
@@ -57,7 +57,7 @@ pub does_none : {C : Type 0} (seen : CoreSeen C) (Calls : World → List PortCal
 does_none seen Calls held history calls before may_be =
     (before, may_be, λ first serves. (record { calls = calls first before; crash = no_event seen held.core held.core first before before refl (files-same seen held.core) }, serves))
 
-machine-then : {C : Type 0} (seen : CoreSeen C) (old mid new : C) (first : World) (before between later : List PortCall) → MachineCrashes seen old mid first before between → MachineCrashes seen mid new first between later
+pub machine-then : {C : Type 0} (seen : CoreSeen C) (old mid new : C) (first : World) (before between later : List PortCall) → MachineCrashes seen old mid first before between → MachineCrashes seen mid new first between later
     → MachineCrashes seen old new first before later
 machine-then seen old mid new first before between later one two =
     crashes-then seen old mid new (after first before).shared.world (after first before).changes (after first between).shared.world (after first between).changes (after first later).shared.world (after first later).changes one two
@@ -236,16 +236,6 @@ pub accept_begins : {C : Type 0} (seen : CoreSeen C) (held later : Held C) (old 
 accept_begins seen held later old new =
     begins_as seen (λ first. Accepts held.last) TakesPart held later old new
     (λ first a b serves one. (0, take-some seen 0 held held.links first a b b (omega arith) (take_all (length held.links) held.links (omega arith)) serves one refl))
-
-pub round_does : {C : Type 0} (seen : CoreSeen C) (held flushed later : Held C) (old mid new : List PortCall → Type 0) → GoesOn (Does seen Flushes held flushed) old mid → GoesOn (Does seen Takes flushed later) mid new
-    → GoesOn (Does seen Rounds held later) old new
-round_does seen held flushed later old mid new =
-    does_then seen Flushes Takes Rounds held flushed later old mid new (λ first a b c serves serves' one two. record { flushed = b; flushes = one; takes = two })
-
-pub round_begins : {C : Type 0} (seen : CoreSeen C) (held flushed later : Held C) (old mid new : List PortCall → Type 0) → GoesOn (Does seen Flushes held flushed) old mid → GoesOn (Begins seen TakesPart flushed later) mid new
-    → GoesOn (Begins seen RoundsPart held later) old new
-round_begins seen held flushed later old mid new =
-    begins_then seen Flushes TakesPart RoundsPart held flushed later old mid new (λ first a b c serves serves' one two. record { flushed = b; flushes = one; takes = two })
 
 -- Accepts
 

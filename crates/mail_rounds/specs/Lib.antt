@@ -4,5 +4,6 @@ pub mod Crashes
 pub mod Calls
 pub mod Held
 pub mod Serves
+pub mod Served
 pub mod Heard
 pub mod Faults

@@ -13,6 +13,7 @@ ghost use Rattle.mail_rounds.specs.Held.{held, Held, AsksPart, AtEach, AtPlace, 
 ghost use Rattle.mail_rounds.specs.Calls.{GoesOn, Offers, Asks, Closes, Accepts, Flushes, Takes, TakesPart, Rounds, RoundsPart};
 ghost use Rattle.mail_rounds.specs.Faults.{fault_of};
 ghost use Rattle.mail_rounds.specs.Serves.{Begins, Does, IsGoing, Serves, Opens};
+ghost use Rattle.mail_rounds.specs.Served.{ServesAll, ServesPart};
 
 use crate::ending::settle;
 use crate::hearing::hear;
@@ -21,7 +22,9 @@ use crate::mail_core::{Core, CoreFault};
 use crate::sending::offer;
 use crate::server::{Server, Unserved};
 use imap_lexer::Lexer;
-use mail_model::steps_record_their_changes;
+use mail_model::{
+    changes_stand_by_their_answers, later_changes_stand_behind, steps_record_their_changes,
+};
 use port_model::{Kind, ListenFault, Ports};
 use std::alloc::{AllocError, Global};
 
@@ -264,11 +267,14 @@ impl<C: Core> Server<C> {
         ensures counts { NeverFall (P.listen_faults ports.old) (P.link_faults ports.old) (P.listen_faults ports.new) (P.link_faults ports.new) }
         ensures quiet { P.listen_faults ports.new ≡ P.listen_faults ports.old }
 
-        // By exactly these calls, and a crash leaves the world as it was. Where the server held what the machine had, it does so then.
-        ensures goes { GoesOn (Does C.seen Flushes (held self.old) (held self.new)) (P.history ports.old) (P.history ports.new) }
+        // By exactly these calls, by which only answers of earlier calls go out, and a crash leaves the world as it was. Where the server
+        // held what the machine had, it does so then.
+        ensures goes { GoesOn (ServesAll C.seen Flushes (held self.old) (held self.new)) (P.history ports.old) (P.history ports.new) }
         ensures files { LeavesFiles C.seen self.old.core self.new.core }
         ensures going { IsGoing C.seen self.new }
     {
+        later_changes_stand_behind();
+        changes_stand_by_their_answers();
         self.offer_all(ports);
         self.close_all(ports);
     }
@@ -377,9 +383,9 @@ impl<C: Core> Server<C> {
         ensures counts { NeverFall (P.listen_faults ports.old) (P.link_faults ports.old) (P.listen_faults ports.new) (P.link_faults ports.new) }
 
         // By exactly these calls, and at a fault by a part of them from the front. With whatever answer, a crash leaves the world
-        // after some of the changes that they make.
-        ensures done { OnOk result (GoesOn (Does C.seen Takes (held self.old) (held self.new)) (P.history ports.old) (P.history ports.new)) }
-        ensures part { OnErr result (GoesOn (Begins C.seen TakesPart (held self.old) (held self.new)) (P.history ports.old) (P.history ports.new)) }
+        // after some of the changes that they make, and keeps every change that was handed out.
+        ensures done { OnOk result (GoesOn (ServesAll C.seen Takes (held self.old) (held self.new)) (P.history ports.old) (P.history ports.new)) }
+        ensures part { OnErr result (GoesOn (ServesPart C.seen TakesPart (held self.old) (held self.new)) (P.history ports.old) (P.history ports.new)) }
         ensures listen { IsErrOf result RoundFault.ListenFault → Rose (P.listen_faults ports.old) (P.listen_faults ports.new) }
         ensures quiet { (IsErrOf result RoundFault.ListenFault → ⊥) → P.listen_faults ports.new ≡ P.listen_faults ports.old }
         ensures going { OnOk result (IsGoing C.seen self.new) }
@@ -387,6 +393,8 @@ impl<C: Core> Server<C> {
         ensures stored { (IsErrOf result RoundFault.StoreFault → ⊥) → C.seen.faults self.new.core ≡ C.seen.faults self.old.core }
         ensures spent { self.new.spent ≡ is_err result }
     {
+        later_changes_stand_behind();
+        changes_stand_by_their_answers();
         self.spent = true;
         let count = self.links.len();
         self.accept(ports)?;
@@ -402,9 +410,9 @@ impl<C: Core> Server<C> {
         ensures counts { NeverFall (P.listen_faults ports.old) (P.link_faults ports.old) (P.listen_faults ports.new) (P.link_faults ports.new) }
 
         // By exactly these calls, and at a fault by a part of them from the front. With whatever answer, a crash leaves the world
-        // after some of the changes that they make.
-        ensures done { OnOk result (GoesOn (Does C.seen Rounds (held self.old) (held self.new)) (P.history ports.old) (P.history ports.new)) }
-        ensures part { OnErr result (GoesOn (Begins C.seen RoundsPart (held self.old) (held self.new)) (P.history ports.old) (P.history ports.new)) }
+        // after some of the changes that they make, and keeps every change that was handed out.
+        ensures done { OnOk result (GoesOn (ServesAll C.seen Rounds (held self.old) (held self.new)) (P.history ports.old) (P.history ports.new)) }
+        ensures part { OnErr result (GoesOn (ServesPart C.seen RoundsPart (held self.old) (held self.new)) (P.history ports.old) (P.history ports.new)) }
         ensures listen { IsErrOf result RoundFault.ListenFault → Rose (P.listen_faults ports.old) (P.listen_faults ports.new) }
         ensures quiet { (IsErrOf result RoundFault.ListenFault → ⊥) → P.listen_faults ports.new ≡ P.listen_faults ports.old }
         ensures going { OnOk result (IsGoing C.seen self.new) }
@@ -412,6 +420,8 @@ impl<C: Core> Server<C> {
         ensures stored { (IsErrOf result RoundFault.StoreFault → ⊥) → C.seen.faults self.new.core ≡ C.seen.faults self.old.core }
         ensures spent { self.new.spent ≡ is_err result }
     {
+        later_changes_stand_behind();
+        changes_stand_by_their_answers();
         self.flush(ports);
         self.take(ports)
     }

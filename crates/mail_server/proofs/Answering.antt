@@ -30,7 +30,9 @@ use Rattle.mail_server.specs.WorldFiles.{LeavesChanges}
 use Rattle.mail_server.specs.Texts.{LeavesText, changes_in, changes_of}
 use Rattle.mail_server.specs.Serving.{ServesFiles}
 use Rattle.mail_server.proofs.StoreFiles.{always-read}
+use Rattle.mail_server.specs.Keeping.{KeepsSent, KeepsText}
 use Rattle.mail_server.proofs.Crashing.{left_since}
+use Rattle.mail_server.proofs.Handed.{text_keeps}
 use Rattle.mail_server.proofs.Readings.{canon-ends, ends-read, ends-short, read-same, short-done}
 
 -- The statuses that texts give
@@ -128,7 +130,7 @@ same-leaves told changes files =
     → Left told files since (worlds_since world (changes world) earlier)) (λ bytes world holds since earlier left. left_since told files since world (changes world) earlier left)
 
 same-text : {D : Type 0} (told : Told D) (task : Task) (text : List ℕ) (files files' : Files D) → files' ≡ files → LeavesText told task text files files'
-same-text {D} told Script text files files' same = subst (λ (f : Files D). LeavesText told Script text files f) (sym same) (same-leaves told (changes_of text) files)
+same-text {D} told Script text files files' same = subst (λ (f : Files D). LeavesText told Script text files f) (sym same) (same-leaves told (changes_of text) files, text_keeps told text files)
 same-text told Canon text files files' same = same
 
 -- The text that a source has leaves of the files what that does which was read of it.
@@ -142,6 +144,10 @@ leaves-left told task bytes files files' (Some text) new reads long leaves = by_
         let le : length bytes ≤ limit_of task = grind (arith, nat_tests, is) in
         subst (λ (t : List ℕ). LeavesText told task t files files') (sym (read-same (limit_of task) text bytes new reads le)) leaves
     by_length false is = same-text told task text files files' (long (grind (arith, nat_tests, is)))
+
+of-left : (left : Option (List ℕ)) (P Q : List ℕ → Type 0) → ((text : List ℕ) → P text → Q text) → IfSome left P → IfSome left Q
+of-left None P Q each some = tt
+of-left (Some text) P Q each some = each text some
 
 always-some : (left : Option (List ℕ)) (P : List ℕ → Type 0) → ((text : List ℕ) → P text) → IfSome left P
 always-some None P each = tt
@@ -158,8 +164,9 @@ script_answers told text events now files files' (Ok answer) says short serves =
     ends-short told Script text now files files' (end_of answer) short (subst (λ (said : Result (List Event) ℕ). EventsEnd told said files files' (end_of answer)) (sym says) serves.ends)
 
 pub script_leaves : {D E : Type 0} (told : Told D) (text : List ℕ) (events : List Event) (files files' : Files D) (answer : Result Answer E) → script_events text ≡ Ok events
-    → ServesFiles told events answer files files' → LeavesChanges told (changes_of text) files files'
-script_leaves told text events files files' answer says serves = subst (λ (said : Result (List Event) ℕ). LeavesChanges told (changes_in said) files files') (sym says) serves.leaves
+    → ServesFiles told events answer files files' → LeavesText told Script text files files'
+script_leaves told text events files files' answer says serves =
+    subst (λ (said : Result (List Event) ℕ). LeavesChanges told (changes_in said) files files' × IfOk said (λ script. KeepsSent told script files files')) (sym says) (serves.leaves, serves.keeps)
 
 -- What a message has a run write ends it as the table has it.
 pub canon-answers : {D E : Type 0} (told : Told D) (text : List ℕ) (now : ℕ) (files : Files D) (answer : Result Answer E) → IfOk answer (λ answer. end_of answer ≡ canon_end text now)
@@ -172,7 +179,8 @@ of-task : {S K C D : Type 0} (tells : Tells S K C) (told : Told D) (task : Task)
     → Ends tells told task status old new files files' → ReadsText task (tells.left old.source) (tells.left new.source) → (task ≡ Script → new.clock ≡ old.clock)
     → IfSome (tells.left old.source) (λ text. LeavesText told task text files files') → (task ≡ Canon → files' ≡ files)
     → AnswersText tells told task status old new files files'
-of-task tells told Script status old new files files' ends reads clock leaves same = record { ends = ends; reads = reads; clock = clock refl; leaves = leaves }
+of-task tells told Script status old new files files' ends reads clock leaves same =
+    record { ends = ends; reads = reads; clock = clock refl; leaves = of-left (tells.left old.source) (λ text. LeavesText told Script text files files') (λ text. LeavesChanges told (changes_of text) files files') (λ text both. both.0) leaves; keeps = of-left (tells.left old.source) (λ text. LeavesText told Script text files files') (λ text. KeepsText told text files files') (λ text both. both.1) leaves }
 of-task tells told Canon status old new files files' ends reads clock leaves same = record { ends = ends; reads = reads; untouched = same refl }
 
 script-clock : {C : Type 0} (readings : C → Option (List ℕ)) (task : Task) (now : ℕ) (old new : C) → TakesMoment readings task now old new → task ≡ Script → new ≡ old

@@ -35,7 +35,9 @@ use Rattle.mail_server.specs.StoreCore.{IsServing, core_seen}
 use Rattle.mail_server.specs.WorldFiles.{IfStands, LeavesChanges}
 use Rattle.mail_server.proofs.StoreFiles.{fault-later, read-before, always-read, counts-both}
 use Rattle.mail_server.proofs.UserFiles.{LeaveTheSame, LoadedStand, if_world, left-sure, standing}
+use Rattle.mail_server.specs.Keeping.{FilesKeep, KeepsScript}
 use Rattle.mail_server.proofs.Crashing.{left_since}
+use Rattle.mail_server.proofs.Handed.{loaded_keeps, store_keeps, unloaded_keeps, unserved_keeps}
 
 -- what is shared before any session
 abbrev fresh : World → Shared
@@ -72,17 +74,25 @@ left-store : {D : Type 0} (told : Told D) (script : List Event) (core core' : St
 unfolding core_seen
 left-store told script core core' none settled crash world stands since earlier left = crash world (serving told core world none settled stands) (since.log0 ∷ since.log1 ∷ []) earlier left
 
+-- what is kept of what was handed out
+kept-store : {D : Type 0} (told : Told D) (script : List Event) (core core' : StoreCore D) → core.sessions ≡ [] → IsSettled told core.store.files (stored_by in_row core.store.tables)
+    → ((first : World) → (core_seen told).stands core (fresh first) → KeepsScript (core_seen told) core' first script)
+    → IfStands told core.store (λ world. FilesKeep told core'.store.files world script)
+unfolding core_seen
+kept-store told script core core' none settled keep world stands = store_keeps told core' world script (keep world (serving told core world none settled stands))
+
 -- The script was played to its end, and what was sent is printed, unless memory for that is refused.
 pub served_ok : {D E : Type 0} (told : Told D) (script : List Event) (core core' : StoreCore D) (calls : List PortCall) (last : ℕ) (printed : Result Answer E) → core.sessions ≡ []
     → IsSettled told core.store.files (stored_by in_row core.store.tables)
     → ((first : World) → (core_seen told).stands core (fresh first) → HasPlayed (core_seen told) first script calls last core')
     → ((first : World) → (core_seen told).stands core (fresh first) → LeavesScript (core_seen told) core core' first script)
+    → ((first : World) → (core_seen told).stands core (fresh first) → KeepsScript (core_seen told) core' first script)
     → (core_seen told).faults core' ≡ (core_seen told).faults core
     → IfOk printed (λ answer. answer.status ≡ Done) → IfOk printed (λ answer. answer.lines.items ≡ transcript_of last (sent calls)) → ServesStore told script printed core.store core'.store.files
 unfolding core_seen
-served_ok told script core core' calls last (Err error) none settled plays crash same done lines =
-    record { ends = tt; leaves = left-store told script core core' none settled crash; quiet = λ starved. none-rose told core core' same }
-served_ok told script core core' calls last (Ok answer) none settled plays crash same done lines = record {
+served_ok told script core core' calls last (Err error) none settled plays crash keep same done lines =
+    record { ends = tt; leaves = left-store told script core core' none settled crash; keeps = kept-store told script core core' none settled keep; quiet = λ starved. none-rose told core core' same }
+served_ok told script core core' calls last (Ok answer) none settled plays crash keep same done lines = record {
   ends = subst (StoreEnd told script answer.lines.items core.store core'.store.files) (sym done) (
     (λ first stands.
         let played = plays first (serving told core first none settled stands) in
@@ -92,7 +102,7 @@ served_ok told script core core' calls last (Ok answer) none settled plays crash
         )),
     none-rose told core core' same,
   );
-  leaves = left-store told script core core' none settled crash;
+  leaves = left-store told script core core' none settled crash; keeps = kept-store told script core core' none settled keep;
   quiet = λ starved. none-rose told core core' same;
 }
 
@@ -104,27 +114,29 @@ store-alone {T} result is e = let bad : (let told : Result T PlayFault = Err Pla
 pub served_err : {D E : Type 0} (told : Told D) (script : List Event) (core core' : StoreCore D) (played : Result Played PlayFault) (fault : PlayFault) (result : Result Answer E) → played ≡ Err fault
     → core.sessions ≡ [] → IsSettled told core.store.files (stored_by in_row core.store.tables)
     → ((first : World) → (core_seen told).stands core (fresh first) → LeavesScript (core_seen told) core core' first script)
+    → ((first : World) → (core_seen told).stands core (fresh first) → KeepsScript (core_seen told) core' first script)
     → (played ≡ Err PlayStoreFault → SomeRose ((core_seen told).faults core) ((core_seen told).faults core'))
     → ((played ≡ Err PlayStoreFault → ⊥) → (core_seen told).faults core' ≡ (core_seen told).faults core)
     → (fault ≡ PlayStoreFault → IsOkAnd result (λ answer. end_of answer ≡ record { status = StoreFault; lines = [] })) → (fault ≡ PlayNoMemory → IsErr result)
     → ServesStore told script result core.store core'.store.files
-served_err told script core core' played PlayStoreFault (Err error) is none settled crash failed quiet ends no_memory = absurd (ends refl)
-served_err told script core core' played PlayStoreFault (Ok answer) is none settled crash failed quiet ends no_memory =
+served_err told script core core' played PlayStoreFault (Err error) is none settled crash keep failed quiet ends no_memory = absurd (ends refl)
+served_err told script core core' played PlayStoreFault (Ok answer) is none settled crash keep failed quiet ends no_memory =
     let end = ends refl in
     record {
       ends = subst (StoreEnd told script answer.lines.items core.store core'.store.files) (sym (ap (λ (end : End). end.status) end)) (ap (λ (end : End). end.lines) end, some-rose told core core' (failed is));
-      leaves = left-store told script core core' none settled crash;
+      leaves = left-store told script core core' none settled crash; keeps = kept-store told script core core' none settled keep;
       quiet = λ starved. absurd (true≢false (sym starved));
     }
-served_err told script core core' played PlayNoMemory (Err error) is none settled crash failed quiet ends no_memory =
-    record { ends = tt; leaves = left-store told script core core' none settled crash; quiet = λ starved. none-rose told core core' (quiet (store-alone played is)) }
-served_err told script core core' played PlayNoMemory (Ok answer) is none settled crash failed quiet ends no_memory = absurd (true≢false (sym (no_memory refl)))
+served_err told script core core' played PlayNoMemory (Err error) is none settled crash keep failed quiet ends no_memory =
+    record { ends = tt; leaves = left-store told script core core' none settled crash; keeps = kept-store told script core core' none settled keep; quiet = λ starved. none-rose told core core' (quiet (store-alone played is)) }
+served_err told script core core' played PlayNoMemory (Ok answer) is none settled crash keep failed quiet ends no_memory = absurd (true≢false (sym (no_memory refl)))
 
 -- Memory was refused for the sessions, so that none is served.
-pub store_unserved : {D E : Type 0} (told : Told D) (script : List Event) (error : E) (store : Store D) → ServesStore told script (Err error) store store.files
-store_unserved told script error store = record {
+pub store_unserved : {D E : Type 0} (told : Told D) (script : List Event) (error : E) (store : Store D) → IsSettled told store.files (stored_by in_row store.tables) → ServesStore told script (Err error) store store.files
+store_unserved told script error store settled = record {
   ends = tt;
   leaves = λ world stands since earlier left. left_since told store.files since world (script_machine world script).changes earlier left;
+  keeps = unserved_keeps told script store settled;
   quiet = λ starved. (refl, refl, refl);
 }
 
@@ -139,7 +151,7 @@ pub files_served : {D E : Type 0} (told : Told D) (script : List Event) (answer 
     → LeaveTheSame told → LoadedStand → MakesAllSure told files old.files → TellsFaults told ⊥ files old.files → IsSettled told old.files (stored_by in_row old.tables)
     → ServesStore told script answer old files' → ServesFiles told script answer files files'
 files_served {D} {E} told script answer files old files' law loaded sure tells settled serves =
-    record { ends = by-answer answer serves.ends; leaves = leaves; quiet = λ starved. counts-both told files old.files files' quiet (serves.quiet starved) }
+    record { ends = by-answer answer serves.ends; leaves = leaves; keeps = loaded_keeps told script files old files' loaded sure settled serves.keeps; quiet = λ starved. counts-both told files old.files files' quiet (serves.quiet starved) }
   where
     quiet : CountsNoFault told files old.files
     quiet = tells.quiet (λ failed. failed)
@@ -176,6 +188,7 @@ files_unserved {D} {E} told script answer old new fault law sure tells none not_
   leaves = always-read told old (λ bytes. (world : World) → HoldsWorld bytes (world ∷ []) → (since : LogMoments) (earlier : List World) → Left told old since (world ∷ earlier)
       → Left told new since (worlds_since world (script_machine world script).changes earlier))
       (λ bytes world stands since earlier left. left_since told new since world (script_machine world script).changes earlier (left-sure told old new since (world ∷ earlier) law sure left));
+  keeps = unloaded_keeps told script old new law sure;
   quiet = λ starved. tells.quiet (λ is. unstarved _ answer starved (failed is));
 }
   where

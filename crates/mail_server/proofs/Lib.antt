@@ -7,6 +7,7 @@ pub mod Alone
 pub mod Playing
 pub mod Crashing
 pub mod Starving
+pub mod Handed
 pub mod FromStore
 pub mod FromSteps
 pub mod Transfers

@@ -12,7 +12,8 @@ use Rattle.mail_rounds.specs.Calls.{GoesOn, Flushes, Rounds, RoundsPart, dues}
 use Rattle.mail_rounds.specs.CoreSeen.{CoreSeen}
 use Rattle.mail_rounds.specs.Crashes.{MachineCrashes}
 use Rattle.mail_rounds.specs.Held.{Held}
-use Rattle.mail_rounds.specs.Serves.{Begins, Does, Serves}
+use Rattle.mail_rounds.specs.Serves.{Serves}
+use Rattle.mail_rounds.specs.Served.{ServesAll, ServesPart}
 use Rattle.mail_server.specs.Rounds.{plan_of, left_in, reached}
 use Rattle.mail_server.specs.OnScript.{HasPlayed, IsOnScript, IsPartway, PartCrashes}
 use Rattle.mail_server.proofs.Crashing.{on_partway}
@@ -25,7 +26,7 @@ none-left (event ∷ later) none = absurd (omega (arith, none))
 
 -- Ports that recorded all calls have these for their history, and no other.
 
-told : (ports : Scripted) → ports.starved ≡ false → script_history ports ports.calls
+pub told : (ports : Scripted) → ports.starved ≡ false → script_history ports ports.calls
 told ports h = subst (λ (starved : Bool). HasCalls starved ports.plan ports.calls ports.calls) (sym h) refl
 
 only : (ports : Scripted) (calls : List PortCall) → ports.starved ≡ false → script_history ports calls → calls ≡ ports.calls
@@ -39,7 +40,7 @@ played-until plan [] plays = tt
 played-until plan (call ∷ older) plays = inl plays
 
 -- Whatever their history may be, the script answers it up to calls that give nothing.
-until : (ports : Scripted) (calls : List PortCall) → (ports.starved ≡ false → IsPlayed ports.plan ports.calls) → script_history ports calls → IsPlayedUntil ports.plan calls
+pub until : (ports : Scripted) (calls : List PortCall) → (ports.starved ≡ false → IsPlayed ports.plan ports.calls) → script_history ports calls → IsPlayedUntil ports.plan calls
 until ports calls plays = by_record ports.starved plays
   where
     by_record : (starved : Bool) → (starved ≡ false → IsPlayed ports.plan ports.calls) → HasCalls starved ports.plan ports.calls calls → IsPlayedUntil ports.plan calls
@@ -55,12 +56,12 @@ script_begins seen first script ports held serves e =
 
 -- A round keeps a server in the middle of a script, and less is left of it.
 pub round_goes_on : {C : Type 0} (seen : CoreSeen C) (first : World) (script : List Event) (ports ports' : Scripted) (held held' : Held C) → AreEvents script
-    → GoesOn (Does seen Rounds held held') (script_history ports) (script_history ports') → its_plan ports' ≡ its_plan ports → ports'.starved ≡ false → IsPlayed ports'.plan ports'.calls
+    → GoesOn (ServesAll seen Rounds held held') (script_history ports) (script_history ports') → its_plan ports' ≡ its_plan ports → ports'.starved ≡ false → IsPlayed ports'.plan ports'.calls
     → IsOnScript seen first script ports held → (playing ports.plan ports.calls).left ≢ []
     → IsOnScript seen first script ports' held' × (length (playing ports'.plan ports'.calls).left < length (playing ports.plan ports.calls).left)
 round_goes_on seen first script ports ports' held held' are goes plan h plays on some =
     let plan' : ports'.plan ≡ plan_of script = same_Some ports'.plan ports.plan plan ∙ on.plan in
-    let did = went (Does seen Rounds held held') ports ports' on.told h goes first on.serves in
+    let did = went (ServesAll seen Rounds held held') ports ports' on.told h goes first on.serves in
     let round = did.0.calls in
     let some' : left_in script ports.calls ≢ [] = subst (λ (p : Plan). (playing p ports.calls).left ≢ []) on.plan some in
     let plays' : IsPlayed (plan_of script) ports'.calls = subst (λ (p : Plan). IsPlayed p ports'.calls) plan' plays in
@@ -78,9 +79,9 @@ round_goes_on seen first script ports ports' held held' are goes plan h plays on
           (subst (λ (p : Plan). length (left_in script ports'.calls) < length (playing p ports.calls).left) (sym on.plan) less),
     )
 
-pub round_made : {C : Type 0} (seen : CoreSeen C) (first : World) (script : List Event) (ports ports' : Scripted) (held held' : Held C) → GoesOn (Does seen Rounds held held') (script_history ports) (script_history ports')
+pub round_made : {C : Type 0} (seen : CoreSeen C) (first : World) (script : List Event) (ports ports' : Scripted) (held held' : Held C) → GoesOn (ServesAll seen Rounds held held') (script_history ports) (script_history ports')
     → ports'.starved ≡ false → IsOnScript seen first script ports held → MachineCrashes seen held.core held'.core first ports.calls ports'.calls
-round_made seen first script ports ports' held held' goes h on = (went (Does seen Rounds held held') ports ports' on.told h goes first on.serves).0.crash
+round_made seen first script ports ports' held held' goes h on = (went (ServesAll seen Rounds held held') ports ports' on.told h goes first on.serves).0.crash
 
 -- Wherever a round ended, and whether or not its calls were recorded, a crash leaves the world after some of the changes that it
 -- made, which are of the script.
@@ -96,7 +97,7 @@ part-crashes seen first script ports ports' held held' later law are plan plays 
     }
 
 pub begun_crashes : {C : Type 0} (seen : CoreSeen C) (first : World) (script : List Event) (ports ports' : Scripted) (held held' : Held C) → Leaving → AreEvents script
-    → GoesOn (Begins seen RoundsPart held held') (script_history ports) (script_history ports') → its_plan ports' ≡ its_plan ports → (ports'.starved ≡ false → IsPlayed ports'.plan ports'.calls)
+    → GoesOn (ServesPart seen RoundsPart held held') (script_history ports) (script_history ports') → its_plan ports' ≡ its_plan ports → (ports'.starved ≡ false → IsPlayed ports'.plan ports'.calls)
     → IsOnScript seen first script ports held → PartCrashes seen held.core held'.core first script ports.calls
 begun_crashes seen first script ports ports' held held' law are goes plan plays on =
     let gone = goes ports.calls (told ports on.told) in
@@ -104,7 +105,7 @@ begun_crashes seen first script ports ports' held held' law are goes plan plays 
     part-crashes seen first script ports ports' held held' gone.0 law are plan plays on gone.1 did.calls did.crash
 
 pub done_crashes : {C : Type 0} (seen : CoreSeen C) (first : World) (script : List Event) (ports ports' : Scripted) (held held' : Held C) → Leaving → AreEvents script
-    → GoesOn (Does seen Rounds held held') (script_history ports) (script_history ports') → its_plan ports' ≡ its_plan ports → (ports'.starved ≡ false → IsPlayed ports'.plan ports'.calls)
+    → GoesOn (ServesAll seen Rounds held held') (script_history ports) (script_history ports') → its_plan ports' ≡ its_plan ports → (ports'.starved ≡ false → IsPlayed ports'.plan ports'.calls)
     → IsOnScript seen first script ports held → PartCrashes seen held.core held'.core first script ports.calls
 done_crashes seen first script ports ports' held held' law are goes plan plays on =
     let gone = goes ports.calls (told ports on.told) in
@@ -119,12 +120,12 @@ script_partway seen first script ports held are on =
 
 -- Once nothing is left and all is flushed, the history plays the script to its end.
 pub script_ends : {C : Type 0} (seen : CoreSeen C) (first : World) (script : List Event) (ports ports' : Scripted) (held held' : Held C) → AreEvents script
-    → GoesOn (Does seen Flushes held held') (script_history ports) (script_history ports') → its_plan ports' ≡ its_plan ports → ports'.starved ≡ false → IsPlayed ports'.plan ports'.calls
+    → GoesOn (ServesAll seen Flushes held held') (script_history ports) (script_history ports') → its_plan ports' ≡ its_plan ports → ports'.starved ≡ false → IsPlayed ports'.plan ports'.calls
     → IsOnScript seen first script ports held → (playing ports.plan ports.calls).left ≡ []
     → HasPlayed seen first script ports'.calls held'.last held'.core
 script_ends seen first script ports ports' held held' are goes plan h plays on done =
     let plan' : ports'.plan ≡ plan_of script = same_Some ports'.plan ports.plan plan ∙ on.plan in
-    let did = went (Does seen Flushes held held') ports ports' on.told h goes first on.serves in
+    let did = went (ServesAll seen Flushes held held') ports ports' on.told h goes first on.serves in
     let out = plays_out first script on.turns ports'.calls are (record {
       before = ports.calls;
       had = on.had;

@@ -9,6 +9,7 @@ pub mod WorldFiles
 pub mod Run
 pub mod Texts
 pub mod StoreCore
+pub mod Keeping
 pub mod Serving
 pub mod Users
 pub mod Does

@@ -11,14 +11,17 @@ use Rattle.mail_rounds.specs.Crashes.{worlds_since}
 use Rattle.mail_server.specs.declared.answer.Answer.{Answer}
 use Rattle.mail_server.specs.declared.status.Status.{Status}
 use Rattle.mail_server.specs.declared.status.Status.TheVariants.{Done, Usage, NoMemory, ReadFault, WriteFault, StoreFault, NotAStore, Refused, BadScript}
+use Rattle.mail_server.specs.Keeping.{FilesKeep, KeepsSent}
 use Rattle.mail_server.specs.Run.{IsPlayedOut, ServesEnd}
 use Rattle.mail_server.specs.Script.{script_machine}
 use Rattle.mail_server.specs.WorldFiles.{IfStands, LeavesChanges, SettledFor}
 
--- From the store that the files hold: how it ends, what a crash leaves, and that no call on a file failed where memory was refused.
+-- From the store that the files hold: how it ends, what a crash leaves, that it keeps what was handed out, and that no call on a file
+-- failed where memory was refused.
 pub record ServesFiles {D E : Type 0} (told : Told D) (script : List Event) (answer : Result Answer E) (files files' : Files D) : Type 0 where
   pub ends : IfOk answer (λ answer. ServesEnd told script answer.lines.items files files' answer.status)
   pub leaves : LeavesChanges told (λ world. (script_machine world script).changes) files files'
+  pub keeps : KeepsSent told script files files'
   pub quiet : IsErr answer → CountsNoFault told files files'
 
 -- How it ends where the store was loaded,
@@ -39,4 +42,5 @@ pub record ServesStore {D E : Type 0} (told : Told D) (script : List Event) (ans
   pub ends : IfOk answer (λ answer. StoreEnd told script answer.lines.items store files' answer.status)
   pub leaves : IfStands told store (λ world. (since : LogMoments) (earlier : List World) → Left told store.files since (world ∷ earlier)
       → Left told files' since (worlds_since world (script_machine world script).changes earlier))
+  pub keeps : IfStands told store (λ world. FilesKeep told files' world script)
   pub quiet : IsErr answer → CountsNoFault told store.files files'

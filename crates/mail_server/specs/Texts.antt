@@ -9,6 +9,7 @@ use Rattle.row_store.specs.ThreeFiles.{CountsNoFault}
 use Rattle.imap_steps.specs.Stepping.{World}
 use Rattle.mail_model.specs.Machine.{Made}
 use Rattle.mail_server.specs.WorldFiles.{LeavesChanges}
+use Rattle.mail_server.specs.Keeping.{KeepsText}
 use Rattle.mail_server.specs.Script.{script_machine}
 use Rattle.mail_server.specs.declared.status.Status.{Status}
 use Rattle.mail_server.specs.declared.status.Status.TheVariants.{Done, Usage, NoMemory, ReadFault, WriteFault, StoreFault, NotAStore, Refused, BadScript}
@@ -88,6 +89,8 @@ pub record RunsScript {S K C D : Type 0} (tells : Tells S K C) (told : Told D) (
   pub clock : new.clock ≡ old.clock
   -- However it ends, what a crash leaves of the files stands for the world after some of the script's changes.
   pub leaves : IfSome (tells.left old.source) (λ text. LeavesChanges told (changes_of text) files files')
+  -- However it ends, every change that was handed out by then is among those.
+  pub keeps : IfSome (tells.left old.source) (λ text. KeepsText told text files files')
 
 -- How the word `canon` ends.
 abbrev pub CanonEnds : {S K C D : Type 0} → Tells S K C → Told D → Status → Outside S K C → Outside S K C → Files D → Files D → Type 0
@@ -115,5 +118,5 @@ AnswersText tells told Canon status old new files files' = WritesCanonical tells
 
 -- what a text leaves of the files that it is answered from
 abbrev pub LeavesText : {D : Type 0} → Told D → Task → List ℕ → Files D → Files D → Type 0
-LeavesText told Script text files files' = LeavesChanges told (changes_of text) files files'
+LeavesText told Script text files files' = LeavesChanges told (changes_of text) files files' × KeepsText told text files files'
 LeavesText told Canon text files files' = files' ≡ files

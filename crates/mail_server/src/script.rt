@@ -10,6 +10,7 @@ ghost use Rattle.mail_rounds.specs.Held.{held};
 ghost use Rattle.mail_rounds.specs.Serves.{IsGoing, Serves};
 ghost use Rattle.mail_server.specs.declared.script.PlayFault.TheVariants.{NoMemory as PlayNoMemory};
 ghost use Rattle.mail_server.specs.OnScript.{HasPlayed, IsOnScript, LeavesMade, LeavesScript, PartCrashes};
+ghost use Rattle.mail_server.specs.Keeping.{KeepsScript};
 ghost use Rattle.mail_rounds.specs.Crashes.{MachineCrashes};
 
 use mail_model::{changes_stand_by_their_answers, steps_record_their_changes};
@@ -56,8 +57,9 @@ pub(crate) fn play<C: Core>(
     ensures plays { IfOk result.0 (λ played. (first : World) → C.seen.stands core (record { world = first; parts = [] })
         → HasPlayed C.seen first events.items played.ports.calls played.last result.1) }
 
-    // With whatever answer, a crash leaves the world after some of the script's changes.
+    // With whatever answer, a crash leaves the world after some of the script's changes, and keeps every change that was handed out.
     ensures crash { (first : World) → C.seen.stands core (record { world = first; parts = [] }) → LeavesScript C.seen core result.1 first events.items }
+    ensures keeps { (first : World) → C.seen.stands core (record { world = first; parts = [] }) → KeepsScript C.seen result.1 first events.items }
     ensures failed { IsErrOf result.0 PlayFault.StoreFault → SomeRose (C.seen.faults core) (C.seen.faults result.1) }
     ensures stored { (IsErrOf result.0 PlayFault.StoreFault → ⊥) → C.seen.faults result.1 ≡ C.seen.faults core }
 {
@@ -87,6 +89,7 @@ fn play_on<C: Core>(
         → HasPlayed C.seen first events.items played.ports.calls played.last (held server.new).core) }
     ensures crash { (first : World) → Serves C.seen first [] (held server.old)
         → LeavesScript C.seen (held server.old).core (held server.new).core first events.items }
+    ensures keeps { (first : World) → Serves C.seen first [] (held server.old) → KeepsScript C.seen (held server.new).core first events.items }
     ensures failed { IsErrOf result PlayFault.StoreFault → SomeRose (C.seen.faults (held server.old).core) (C.seen.faults (held server.new).core) }
     ensures stored { (IsErrOf result PlayFault.StoreFault → ⊥) → C.seen.faults (held server.new).core ≡ C.seen.faults (held server.old).core }
 {
@@ -125,6 +128,8 @@ fn run_rounds<C: Core>(
         → LeavesMade C.seen (held server.old).core (held server.new).core first (after first ports.new.calls).changes) }
     ensures crash { OnErr result ((first : World) → IsOnScript C.seen first ports.old.plan.events ports.old (held server.old)
         → LeavesScript C.seen (held server.old).core (held server.new).core first ports.old.plan.events) }
+    ensures keeps { OnErr result ((first : World) → IsOnScript C.seen first ports.old.plan.events ports.old (held server.old)
+        → KeepsScript C.seen (held server.new).core first ports.old.plan.events) }
     ensures failed { IsErrOf result PlayFault.StoreFault → SomeRose (C.seen.faults (held server.old).core) (C.seen.faults (held server.new).core) }
     ensures stored { (IsErrOf result PlayFault.StoreFault → ⊥) → C.seen.faults (held server.new).core ≡ C.seen.faults (held server.old).core }
 {
@@ -151,6 +156,8 @@ fn run_round<C: Core>(server: &mut Server<C>, ports: &mut ScriptPorts) -> Result
         → MachineCrashes C.seen (held server.old).core (held server.new).core first ports.old.calls ports.new.calls) }
     ensures crash { OnErr result ((first : World) → IsOnScript C.seen first ports.old.plan.events ports.old (held server.old)
         → PartCrashes C.seen (held server.old).core (held server.new).core first ports.old.plan.events ports.old.calls) }
+    ensures keeps { OnErr result ((first : World) → IsOnScript C.seen first ports.old.plan.events ports.old (held server.old)
+        → KeepsScript C.seen (held server.new).core first ports.old.plan.events) }
     ensures failed { IsErrOf result PlayFault.StoreFault → SomeRose (C.seen.faults (held server.old).core) (C.seen.faults (held server.new).core) }
     ensures stored { (IsErrOf result PlayFault.StoreFault → ⊥) → C.seen.faults (held server.new).core ≡ C.seen.faults (held server.old).core }
 {

@@ -5,8 +5,7 @@ ghost use Rattle.row_store.specs.ThreeFiles.{CountsNoFault};
 ghost use Rattle.mail_server.specs.declared.status.Status.TheVariants.{BadScript};
 ghost use Rattle.mail_server.specs.declared.words.Task.TheVariants.{Script};
 ghost use Rattle.mail_server.specs.Run.{EndsAs, bad_line, end_of, limit_of};
-ghost use Rattle.mail_server.specs.Texts.{changes_of};
-ghost use Rattle.mail_server.specs.WorldFiles.{LeavesChanges};
+ghost use Rattle.mail_server.specs.Texts.{LeavesText};
 
 use crate::answer::{Answer, one_line};
 use crate::serving::serve_files;
@@ -25,7 +24,7 @@ pub(crate) fn answer_script<D: Disk>(
     files: Files<D>,
 ) -> (Result<Answer, AllocError>, Files<D>)
     ensures answers { (now : ℕ) → IfOk result.0 (λ answer. EndsAs D.told Script text.now now files result.1 (end_of answer)) }
-    ensures leaves { LeavesChanges D.told (changes_of text.now) files result.1 }
+    ensures leaves { LeavesText D.told Script text.now files result.1 }
     ensures long { limit_of Script < length text.now → result.1 ≡ files }
     ensures quiet { IsErr result.0 → CountsNoFault D.told files result.1 }
 {

@@ -4,9 +4,11 @@ use Rattle.port_model.specs.Script.{AreEvents}
 use Rattle.port_model.specs.ScriptPorts.{Scripted}
 use Rattle.mail_model.specs.Machine.{after}
 use Rattle.mail_rounds.specs.Held.{held}
+use Rattle.mail_server.specs.Keeping.{KeepsScript}
 use Rattle.mail_server.specs.OnScript.{HasPlayed, IsOnScript, LeavesScript}
 use Rattle.mail_server.specs.Rounds.{plan_of}
 use Rattle.mail_server.proofs.Crashing.{leaves_alone, leaves_script, leaves_still}
+use Rattle.mail_server.proofs.Handed.{flush_keeps, keeps_begun}
 use Rattle.mail_server.proofs.Playing.{script_begins, script_ends, script_partway}
 use Rattle.mail_server.proofs.script.play_on.Goals as goal
 
@@ -63,3 +65,37 @@ returns-then-starved-clause-crash g c first serves =
 
 pub returns-in_err-ports-clause-crash : goal.returns-in_err-ports-clause-crash
 returns-in_err-ports-clause-crash g c first serves = leaves_alone g.C.Core.seen (held c.args.server.now).core first c.args.events.items
+
+pub returns-clause-keeps : goal.returns-clause-keeps
+returns-clause-keeps g c first serves =
+    let its : c.in_ok-ports.ports.plan.events ≡ c.args.events.items = ap (λ (p : Scripted). p.plan.events) c.in_ok-ports.ensures in
+    let e : c.in_ok-ports.ports ≡ record { plan = plan_of c.args.events.items; calls = []; starved = false; starved_accepts = 0; starved_calls = 0 } =
+    subst (λ (sends : List ℕ). c.in_ok-ports.ports ≡ record { plan = record { events = c.args.events.items; sends = sends }; calls = []; starved = false; starved_accepts = 0; starved_calls = 0 }) c.new.ensures.items c.in_ok-ports.ensures in
+    let begun = subst (λ (script : List Event). IsOnScript g.C.Core.seen first script c.in_ok-ports.ports (held c.args.server.now)) (sym its)
+    (script_begins g.C.Core.seen first c.args.events.items c.in_ok-ports.ports (held c.args.server.now) serves e) in
+    subst (λ (script : List Event). KeepsScript g.C.Core.seen (held c.flush.new.self).core first script) its
+    (flush_keeps g.C.Core.seen first c.in_ok-ports.ports.plan.events c.run_rounds.new.ports c.flush.new.ports (held c.run_rounds.new.server) (held c.flush.new.self)
+    c.flush.ensures.goes c.flush.ensures.plan c.starved.ensures.answers (c.in_ok-run_rounds.ensures.on_script first begun))
+
+pub returns-then-starved-clause-keeps : goal.returns-then-starved-clause-keeps
+returns-then-starved-clause-keeps g c first serves =
+    let its : c.in_ok-ports.ports.plan.events ≡ c.args.events.items = ap (λ (p : Scripted). p.plan.events) c.in_ok-ports.ensures in
+    let e : c.in_ok-ports.ports ≡ record { plan = plan_of c.args.events.items; calls = []; starved = false; starved_accepts = 0; starved_calls = 0 } =
+    subst (λ (sends : List ℕ). c.in_ok-ports.ports ≡ record { plan = record { events = c.args.events.items; sends = sends }; calls = []; starved = false; starved_accepts = 0; starved_calls = 0 }) c.new.ensures.items c.in_ok-ports.ensures in
+    let begun = subst (λ (script : List Event). IsOnScript g.C.Core.seen first script c.in_ok-ports.ports (held c.args.server.now)) (sym its)
+    (script_begins g.C.Core.seen first c.args.events.items c.in_ok-ports.ports (held c.args.server.now) serves e) in
+    subst (λ (script : List Event). KeepsScript g.C.Core.seen (held c.flush.new.self).core first script) its
+    (flush_keeps g.C.Core.seen first c.in_ok-ports.ports.plan.events c.run_rounds.new.ports c.flush.new.ports (held c.run_rounds.new.server) (held c.flush.new.self)
+    c.flush.ensures.goes c.flush.ensures.plan c.starved.ensures.answers (c.in_ok-run_rounds.ensures.on_script first begun))
+
+pub returns-in_err-run_rounds-clause-keeps : goal.returns-in_err-run_rounds-clause-keeps
+returns-in_err-run_rounds-clause-keeps g c first serves =
+    let its : c.in_ok-ports.ports.plan.events ≡ c.args.events.items = ap (λ (p : Scripted). p.plan.events) c.in_ok-ports.ensures in
+    let e : c.in_ok-ports.ports ≡ record { plan = plan_of c.args.events.items; calls = []; starved = false; starved_accepts = 0; starved_calls = 0 } =
+    subst (λ (sends : List ℕ). c.in_ok-ports.ports ≡ record { plan = record { events = c.args.events.items; sends = sends }; calls = []; starved = false; starved_accepts = 0; starved_calls = 0 }) c.new.ensures.items c.in_ok-ports.ensures in
+    let begun = subst (λ (script : List Event). IsOnScript g.C.Core.seen first script c.in_ok-ports.ports (held c.args.server.now)) (sym its)
+    (script_begins g.C.Core.seen first c.args.events.items c.in_ok-ports.ports (held c.args.server.now) serves e) in
+    subst (λ (script : List Event). KeepsScript g.C.Core.seen (held c.run_rounds.new.server).core first script) its (c.in_err-run_rounds.ensures.keeps first begun)
+
+pub returns-in_err-ports-clause-keeps : goal.returns-in_err-ports-clause-keeps
+returns-in_err-ports-clause-keeps g c first serves = keeps_begun g.C.Core.seen first c.args.events.items (held c.args.server.now) serves

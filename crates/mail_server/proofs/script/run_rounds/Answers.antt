@@ -5,6 +5,7 @@ use Rattle.port_model.specs.Playing.{Plan, playing}
 use Rattle.mail_model.specs.Machine.{after}
 use Rattle.mail_rounds.specs.Crashes.{MachineCrashes}
 use Rattle.mail_rounds.specs.Held.{held}
+use Rattle.mail_server.specs.Keeping.{KeepsScript}
 use Rattle.mail_server.specs.OnScript.{IsOnScript, LeavesMade, PartCrashes}
 use Rattle.mail_server.proofs.Crashing.{leaves_none, leaves_on, part_leaves}
 use Rattle.mail_server.proofs.Playing.{none-left}
@@ -63,3 +64,11 @@ returns-in_err-run_round-clause-crash g c =
     (c.in_err-run_round.ensures.crash first) (inv.on_script first on).0 in
     part_leaves g.C.Core.seen (held c.args.server.now).core (held c.rounds.server).core (held c.run_round.new.server).core first c.args.ports.now.plan.events c.rounds.ports.calls
     c.worlds_reach_back.ensures.first c.worlds_reach_back.ensures.more c.changes_stand_by_their_answers.ensures.world (inv.leaves first on) part)
+
+pub returns-in_err-run_round-clause-keeps : goal.returns-in_err-run_round-clause-keeps
+returns-in_err-run_round-clause-keeps g c =
+    OnErr-always c.from_residual.result _ (λ first on.
+    let inv = c.rounds.invariant in
+    let its : c.rounds.ports.plan.events ≡ c.args.ports.now.plan.events = ap (λ (p : Plan). p.events) inv.plan in
+    subst (λ (script : List Event). IsOnScript g.C.Core.seen first script c.rounds.ports (held c.rounds.server) → KeepsScript g.C.Core.seen (held c.run_round.new.server).core first script) its
+    (c.in_err-run_round.ensures.keeps first) (inv.on_script first on).0)

@@ -19,4 +19,4 @@ returns-in-Ok g c =
 pub returns-in-Err : goal.returns-in-Err
 returns-in-Err g c =
     let files : c.into_files.result ≡ c.args.store.files = c.into_files.ensures ∙ ap (λ (store : Store g.row.D.Denot). store.files) c.in-Err.ensures.back in
-    subst (λ (files : Files g.row.D.Denot). ServesStore g.D.Disk.told c.args.events.items (Err _) c.args.store files) (sym files) (store_unserved g.D.Disk.told c.args.events.items _ c.args.store)
+    subst (λ (files : Files g.row.D.Denot). ServesStore g.D.Disk.told c.args.events.items (Err _) c.args.store files) (sym files) (store_unserved g.D.Disk.told c.args.events.items _ c.args.store c.requires.settled)
