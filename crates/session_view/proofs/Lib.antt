@@ -1,3 +1,4 @@
 pub mod Numbered
 pub mod Covering
 pub mod Placing
+pub mod Rising

@@ -1,5 +1,5 @@
-pub mod Parts
 pub mod Order
+pub mod Parts
 pub mod Numbers
 pub mod Resolving
 pub mod Spans

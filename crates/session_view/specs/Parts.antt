@@ -1,8 +1,8 @@
--- The own parts of the sessions, by the sessions' numbers.
-use Rattle.std.specs.Prelude.{ℕ, ◌==◌, Bool, List, [], ◌∷◌, Option, Some, None, find, if◌then◌else◌}
+-- The own parts of the sessions, by the sessions' numbers, and which mailboxes they have selected.
+use Rattle.std.specs.Prelude.{ℕ, ◌==◌, Bool, false, List, [], ◌∷◌, Option, Some, None, find, if◌then◌else◌}
 use Rattle.session_view.specs.declared.sessions.SessionPart.{SessionPart}
 use Rattle.session_view.specs.declared.sessions.State.{State}
-use Rattle.session_view.specs.declared.sessions.State.TheVariants.{Fresh}
+use Rattle.session_view.specs.declared.sessions.State.TheVariants.{Fresh, Asked, Known, Selected}
 
 abbrev pub has_number : ℕ → SessionPart → Bool
 has_number number part = part.number == number
@@ -20,3 +20,13 @@ abbrev pub with_state : ℕ → State → List SessionPart → List SessionPart
 with_state number state [] = []
 with_state number state (part ∷ parts) =
     if has_number number part then record { number = number; state = state } ∷ parts else part ∷ with_state number state parts
+
+abbrev pub selects_mailbox : ℕ → State → Bool
+selects_mailbox mailbox Fresh = false
+selects_mailbox mailbox (Asked tag) = false
+selects_mailbox mailbox (Known user) = false
+selects_mailbox mailbox (Selected user selection) = selection.mailbox == mailbox
+
+-- whether a session has a mailbox selected
+abbrev pub has_selected : ℕ → SessionPart → Bool
+has_selected mailbox part = selects_mailbox mailbox part.state

@@ -5,8 +5,10 @@
 mod parts;
 mod sessions;
 mod spans;
+mod uids;
 mod view;
 
 pub use parts::Sessions;
 pub use sessions::{Selection, SessionPart, State};
+pub use uids::ViewUids;
 pub use view::View;

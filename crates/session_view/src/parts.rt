@@ -2,8 +2,7 @@
 ghost use Rattle.std.specs.Prelude.{◌≡◌, ◌<◌, ◌++◌, ◌∷◌, [], not, IfOk, OnOk, OnErr, MatchOption, IsTrue, is_some, position, filter};
 ghost use Rattle.std.specs.Option.{option_copied};
 ghost use Rattle.std.specs.List.{find, list_any};
-ghost use Rattle.session_view.specs.Order.{has_selected, selects_mailbox};
-ghost use Rattle.session_view.specs.Parts.{has_number, state_of, with_state};
+ghost use Rattle.session_view.specs.Parts.{has_number, has_selected, selects_mailbox, state_of, with_state};
 
 use crate::sessions::{SessionPart, State};
 use std::alloc::{AllocError, Global};

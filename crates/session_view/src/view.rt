@@ -1,11 +1,13 @@
 //! What a session was told of a mailbox.
 
-ghost use Rattle.std.specs.Prelude.{◌≡◌, ◌<◌, ◌^◌, ◌++◌, [], length, IfOk, OnOk, OnErr, take, vec_len};
-ghost use Rattle.session_view.specs.Order.{Ascend};
+ghost use Rattle.std.specs.Prelude.{◌≡◌, ◌==◌, ◌++◌, ◌∷◌, [], IfOk, OnOk, OnErr};
+ghost use Rattle.std.specs.List.{list_any};
+ghost use Rattle.session_view.specs.Order.{Ascend, rising};
 ghost use Rattle.session_view.specs.Numbers.{number_of};
 ghost use Rattle.session_view.specs.Resolving.{resolved};
 
 use crate::spans::{covered, selected_spans};
+use crate::uids::ViewUids;
 use imap_grammar::SeqSet;
 use sqlite_items::Items;
 use std::alloc::{AllocError, Global};
@@ -13,34 +15,10 @@ use std::alloc::{AllocError, Global};
 /// The messages of a mailbox as a session was told of them. They stay so until the mailbox is selected again.
 #[derive(Debug, Drop)]
 pub struct View {
-    /// The UIDs, ascending. A message's number is the place of its UID, from 1 (RFC 3501 §2.3.1.2).
-    pub uids: Items<u32>,
-    /// The UIDs of the messages that are recent to the session, ascending (RFC 3501 §2.3.2).
-    pub recent: Items<u32>,
-}
-
-/// Takes items from the end until there are so many.
-fn shorten(items: &mut Items<u32>, len: usize)
-    ensures { items.new ≡ take len items.old }
-{
-    while items.len() > len {
-        items.pop();
-    }
-}
-
-/// Adds UIDs behind others, all of them or none.
-fn add_all(list: &mut Items<u32>, uids: &[u32]) -> Result<(), AllocError>
-    ensures ok { OnOk result (list.new ≡ list.old ++ uids.now) }
-    ensures err { OnErr result (list.new ≡ list.old) }
-{
-    let len = list.len();
-    for uid in uids {
-        if list.push(*uid).is_err() {
-            shorten(list, len);
-            return Err(AllocError);
-        }
-    }
-    Ok(())
+    /// The UIDs. A message's number is the place of its UID, from 1 (RFC 3501 §2.3.1.2).
+    pub uids: ViewUids,
+    /// The UIDs of the messages that are recent to the session (RFC 3501 §2.3.2).
+    pub recent: ViewUids,
 }
 
 impl View {
@@ -50,25 +28,41 @@ impl View {
         ensures recent { result.recent ≡ [] }
     {
         View {
-            uids: Items::new(alloc),
-            recent: Items::new(alloc),
+            uids: ViewUids::empty(alloc),
+            recent: ViewUids::empty(alloc),
+        }
+    }
+
+    /// The messages of these UIDs, and the recent ones among them, as far as the UIDs ascend from 1 on, as those of a mailbox do.
+    pub fn new(uids: Items<u32>, recent: Items<u32>) -> View
+        ensures uids { result.uids ≡ rising 0 uids }
+        ensures recent { result.recent ≡ rising 0 recent }
+    {
+        View {
+            uids: ViewUids::new(uids),
+            recent: ViewUids::new(recent),
         }
     }
 
     /// Messages came of which the session is the first to be told: they are recent to it (RFC 3501 §2.3.2).
     pub fn arrives(&mut self, uids: &[u32]) -> Result<(), AllocError>
-        requires { Ascend (self.old.recent ++ uids.now) }
+        requires { Ascend (0 ∷ (self.old.recent ++ uids.now)) }
         ensures uids { self.new.uids ≡ self.old.uids }
         ensures ok { OnOk result (self.new.recent ≡ self.old.recent ++ uids.now) }
         ensures err { OnErr result (self.new.recent ≡ self.old.recent) }
     {
-        add_all(&mut self.recent, uids)
+        self.recent.append(uids)
+    }
+
+    /// Whether the message with a UID is recent to the session.
+    pub fn is_recent(&self, uid: u32) -> bool
+        ensures { result ≡ list_any (λ other. other == uid) self.now.recent }
+    {
+        self.recent.contains(uid)
     }
 
     /// The number, from 1, of the message with a UID, by a binary search.
     pub fn position(&self, uid: u32) -> Option<u32>
-        requires ascend { Ascend self.now.uids }
-        requires few { length self.now.uids < 2 ^ 32 }
         ensures { result ≡ number_of uid self.now.uids }
     {
         let uids = self.uids.as_slice();
@@ -81,9 +75,8 @@ impl View {
     /// The UIDs of the messages that a set selects, by UID or by number, ascending. A number that no message has selects nothing
     /// (RFC 3501 §6.4.8, §9). It costs a search for each range, and a copy of what is selected.
     pub fn resolve(&self, alloc: Global, set: &SeqSet, by_uid: bool) -> Result<Vec<u32>, AllocError>
-        requires ascend { Ascend self.now.uids }
-        requires few { length self.now.uids < 2 ^ 32 }
-        ensures { IfOk result (λ uids. uids.items ≡ resolved self.now.uids set.now.ranges by_uid) }
+        ensures value { IfOk result (λ uids. uids.items ≡ resolved self.now.uids set.now.ranges by_uid) }
+        ensures ascend { IfOk result (λ uids. Ascend uids.items) }
     {
         let uids = self.uids.as_slice();
         let mut spans = selected_spans(alloc, uids, set.ranges.as_slice(), by_uid)?;

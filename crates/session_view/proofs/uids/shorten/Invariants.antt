@@ -1,5 +1,5 @@
 use Rattle.std.proofs.Common.{◌≡◌, length, take}
-use Rattle.session_view.proofs.view.shorten.Given as goal
+use Rattle.session_view.proofs.uids.shorten.Given as goal
 
 abbrev pub invariant-loop-items : goal.invariant-loop-items
 invariant-loop-items l = take l.len l.items ≡ take l.len l.fn.items
