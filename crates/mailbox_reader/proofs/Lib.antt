@@ -1,0 +1,5 @@
+pub mod Words
+pub mod KeywordSets
+pub mod FlagNames
+pub mod FlagsTold
+pub mod EntryRows
