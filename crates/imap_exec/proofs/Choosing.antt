@@ -1,11 +1,18 @@
 -- Mailboxes that are to be selected.
 use Rattle.std.proofs.Common.{◌≡◌, ℕ, Bool, true, false, not, List, Option, Some, None, refl}
-use Rattle.std.specs.List.{list_any}
+use Rattle.std.specs.List.{list_all, list_any}
 use Rattle.std.specs.Option.{option_map}
+use Rattle.imap_grammar.specs.declared.flags.Flag.{Flag}
+use Rattle.imap_grammar.specs.declared.flags.FlagChange.{FlagChange}
 use Rattle.imap_grammar.specs.declared.items.StatusItem.{StatusItem}
 use Rattle.imap_grammar.specs.declared.selecting.Resync.{Resync}
+use Rattle.imap_writer.specs.declared.refusals.Refusal.TheVariants.{ReadOnly, Syntax}
+use Rattle.session_view.specs.declared.sessions.Selection.{Selection}
 use Rattle.session_view.specs.declared.sessions.State.{State}
-use Rattle.imap_steps.specs.Stepping.{Shared}
+use Rattle.session_view.specs.Resolving.{resolved}
+use Rattle.imap_steps.specs.Stepping.{Shared, refused_with}
+use Rattle.imap_steps.specs.Appending.{is_fit_flag}
+use Rattle.imap_steps.specs.Storing.{store, stored}
 use Rattle.imap_steps.specs.Selecting.{select}
 use Rattle.imap_steps.specs.Status.{is_highest, status}
 use Rattle.imap_steps.specs.Executing.{of_user, select_plainly, status_plainly, unserved}
@@ -34,3 +41,19 @@ module _ (shared : Shared) (tag : List ℕ) (state : State) (name : List ℕ) (i
 pub none_so : {A B : Type 0} (f : A → B) (o : Option A) → None ≡ option_map f o → o ≡ None
 none_so f None e = refl
 none_so f (Some a) e = cc
+
+-- ---- STORE
+
+module _ (shared : Shared) (tag : List ℕ) (selection : Selection) (by_uid : Bool) (ranges : List (Option ℕ × Option ℕ)) (how : FlagChange) (silent : Bool) (flags : List Flag) where
+  pub store_unfit : list_all is_fit_flag flags ≡ false → store shared tag selection by_uid ranges how silent flags ≡ refused_with shared tag Syntax
+  unfolding store
+  store_unfit e = rw e refl
+
+  pub store_examined : list_all is_fit_flag flags ≡ true → selection.read_write ≡ false → store shared tag selection by_uid ranges how silent flags ≡ refused_with shared tag ReadOnly
+  unfolding store
+  store_examined e f = rw (e, f) refl
+
+  pub store_selected : list_all is_fit_flag flags ≡ true → selection.read_write ≡ true
+      → store shared tag selection by_uid ranges how silent flags ≡ stored shared tag selection by_uid (resolved selection.view.uids ranges by_uid) how silent flags
+  unfolding store
+  store_selected e f = rw (e, f) refl

@@ -35,7 +35,7 @@ fit_text flag fit =
     let short : length (flag_text flag) ≤ 8192 = leb-true (length (flag_text flag)) 8192 (right_of (is_flag flag) (nat_le (length (flag_text flag)) 8192) fit) in
     omega arith
 
-fit_flags : (flags : List Flag) → list_all is_fit_flag flags ≡ true → AreProper flags
+pub fit_flags : (flags : List Flag) → list_all is_fit_flag flags ≡ true → AreProper flags
 fit_flags [] fit = record { flags_are = refl; texts = tt }
 fit_flags (flag ∷ flags) fit =
     let first : is_fit_flag flag ≡ true = left_of (is_fit_flag flag) (list_all is_fit_flag flags) fit in

@@ -17,17 +17,18 @@ use Rattle.imap_lexer.specs.declared.units.Shown.{Shown}
 use Rattle.imap_lexer.specs.declared.units.Shown.TheVariants as shown
 use Rattle.imap_writer.specs.declared.refusals.Refusal.TheVariants.{LiteralTooLong, Mechanism, Syntax, State as WrongState}
 use Rattle.session_view.specs.declared.sessions.SessionPart.{SessionPart}
+use Rattle.session_view.specs.declared.sessions.Selection.{Selection}
 use Rattle.session_view.specs.Parts.{state_of}
 use Rattle.session_view.specs.declared.sessions.State.{State}
 use Rattle.session_view.specs.declared.sessions.State.TheVariants.{Fresh, Asked, Known, Selected}
 use Rattle.imap_steps.specs.declared.outcome.Outcome.{Outcome}
 use Rattle.imap_steps.specs.Stepping.{Shared, Stepped, answered_last, bye, refused_with, refused_untagged}
-use Rattle.imap_steps.specs.Executing.{before_login, commanded, executed, literal_refused, of_user, while_selected}
+use Rattle.imap_steps.specs.Executing.{before_login, commanded, executed, literal_refused, of_selection, of_user, while_selected}
 use Rattle.imap_steps.specs.LoggingIn.{asked, authenticate, plain_line}
 use Rattle.imap_steps.specs.Step.{plain_by_state, shown_step, step, whole_step}
 use Rattle.imap_exec.specs.Does.{Executes}
 use Rattle.imap_exec.specs.Answers.{refused_bad}
-use Rattle.imap_exec.specs.Users.{is_fresh, is_selected, tag_asked, user_in}
+use Rattle.imap_exec.specs.Users.{is_fresh, is_selected, selection_in, tag_asked, user_in}
 
 module _ (shared : Shared) (tag : List ℕ) where
   pub when_fresh : (state : State) (done : Stepped) → is_fresh state ≡ true → before_login shared tag state done ≡ done
@@ -68,6 +69,21 @@ module _ (shared : Shared) (tag : List ℕ) where
   unless_user (Asked asked) done e = refl
   unless_user (Known user) done e = cc
   unless_user (Selected user selection) done e = cc
+
+  selection_is : (a b : Selection) → Some a ≡ Some b → a ≡ b
+  selection_is a b e = cc
+
+  pub when_selection : (state : State) (selection : Selection) (done : Selection → Stepped) → selection_in state ≡ Some selection → of_selection shared tag state done ≡ done selection
+  when_selection Fresh selection done e = cc
+  when_selection (Asked asked) selection done e = cc
+  when_selection (Known user) selection done e = cc
+  when_selection (Selected user other) selection done e = ap done (selection_is other selection e)
+
+  pub unless_selection : (state : State) (done : Selection → Stepped) → selection_in state ≡ None → of_selection shared tag state done ≡ refused_with shared tag WrongState
+  unless_selection Fresh done e = refl
+  unless_selection (Asked asked) done e = refl
+  unless_selection (Known user) done e = refl
+  unless_selection (Selected user selection) done e = cc
 
 -- PLAIN, and any other mechanism
 module _ (shared : Shared) (number : ℕ) (tag mechanism : List ℕ) where

@@ -11,3 +11,6 @@ pub mod Summarized
 pub mod Selected
 pub mod Numbered
 pub mod Listing
+pub mod NamedOnce
+pub mod Stored
+pub mod StoreLines

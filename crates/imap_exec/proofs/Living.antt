@@ -5,10 +5,11 @@ use Rattle.ordered_rows.specs.RowKey.{number_key}
 use Rattle.ordered_rows.specs.Listed.{row_at}
 use Rattle.row_tables.specs.Keys.{mailbox_key, user_key}
 use Rattle.row_tables.specs.TableRows.{TableRows}
-use Rattle.row_tables.specs.References.{HasUser}
+use Rattle.row_tables.specs.References.{HasMailbox, HasUser}
 use Rattle.row_tables.specs.declared.heads.Mailbox.{Mailbox}
 use Rattle.row_tables.specs.declared.heads.User.{User}
 use Rattle.session_view.specs.declared.sessions.SessionPart.{SessionPart}
+use Rattle.session_view.specs.declared.sessions.Selection.{Selection}
 use Rattle.session_view.specs.declared.sessions.State.{State}
 use Rattle.session_view.specs.declared.sessions.State.TheVariants.{Fresh, Asked, Known, Selected}
 use Rattle.session_view.specs.Parts.{has_number, state_in, state_of, with_state}
@@ -17,7 +18,7 @@ use Rattle.mail_stands.specs.Leading.{KeepsOwners}
 use Rattle.mailbox_core.specs.Deleting.{KeepsHeld}
 use Rattle.imap_steps.specs.Managing.{held, selected_in}
 use Rattle.imap_exec.specs.Ready.{HasOwned, IsLive, AreLive}
-use Rattle.imap_exec.specs.Users.{user_in}
+use Rattle.imap_exec.specs.Users.{selection_in, user_in}
 
 module _ (t : TableRows) where
   -- the session of a number
@@ -47,6 +48,26 @@ module _ (t : TableRows) where
 
   pub user_is_there : (number user : ℕ) (parts : List SessionPart) → user_in (state_of number parts) ≡ Some user → AreLive t parts → HasUser t user
   user_is_there number user parts e live = has_user (state_of number parts) user e (live_at number parts live)
+
+  -- the mailbox that it has selected
+  selected_there : (mailbox user : ℕ) → HasOwned t user mailbox → HasMailbox t mailbox
+  selected_there mailbox user owned = by (row_at mailbox_key (number_key mailbox) t.heads.mailboxes) owned
+    where
+      by : (o : Option Mailbox) → IsSomeAnd o (λ row. row.owner ≡ user) → IsSome o
+      by None is = absurd is
+      by (Some row) is = refl
+
+  has_selected_mailbox : (state : State) (selection : Selection) → selection_in state ≡ Some selection → IsLive t state → HasMailbox t selection.mailbox
+  has_selected_mailbox Fresh selection e live = cc
+  has_selected_mailbox (Asked tag) selection e live = cc
+  has_selected_mailbox (Known user) selection e live = cc
+  has_selected_mailbox (Selected user other) selection e live = subst (λ (s : Selection). HasMailbox t s.mailbox) (some_is other selection e) (selected_there other.mailbox user live.1)
+    where
+      some_is : (a b : Selection) → Some a ≡ Some b → a ≡ b
+      some_is a b e = cc
+
+  pub selection_is_there : (number : ℕ) (selection : Selection) (parts : List SessionPart) → selection_in (state_of number parts) ≡ Some selection → AreLive t parts → HasMailbox t selection.mailbox
+  selection_is_there number selection parts e live = has_selected_mailbox (state_of number parts) selection e (live_at number parts live)
 
   -- a session's new state
   pub live_with : (number : ℕ) (state : State) (parts : List SessionPart) → IsLive t state → AreLive t parts → AreLive t (with_state number state parts)

@@ -79,7 +79,7 @@ module _ {T : Type 0} (made : Result T MailFault) (fault : MailFault) (refusal :
     memory = λ e. absurd (no_line_of StoreFault.NoMemory (ap refusal_in (err_is fault MailFault.NoMemory is e)));
   }
 
-no_outage : (refusal : Refusal) → IsOutage (fault_of refusal) → ⊥
+pub no_outage : (refusal : Refusal) → IsOutage (fault_of refusal) → ⊥
 no_outage BadName (inl e) = cc
 no_outage BadName (inr e) = cc
 no_outage Absent (inl e) = cc
@@ -102,7 +102,7 @@ abbrev failed : Result Outcome StoreFault
 failed = Err StoreFault.Failed
 
 module _ (result : Result Outcome StoreFault) (fault : StoreFault) (is : result ≡ Err fault) where
-  not_ok : IsOk result → ⊥
+  pub not_ok : IsOk result → ⊥
   not_ok ok = false≢true (subst (λ (r : Result Outcome StoreFault). IsOk r) is ok)
 
 module _ {D T : Type 0} (told : Told D) (call : Result T MailFault) (result : Result Outcome StoreFault) (old new : Store D) (parts : List SessionPart) (before after tag name : List ℕ) (tells : TellsMade call result before after tag name) where

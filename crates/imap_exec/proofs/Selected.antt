@@ -1,8 +1,9 @@
 -- Mailboxes that are selected.
 use Rattle.std.proofs.Common.{◌≡◌, ℕ, ◌<◌, ◌==◌, ◌^◌, ◌++◌, Bool, true, false, cond, not, ◌&&◌, List, [], ◌∷◌, map, length, Option, Some, None, Result, Ok, Err, IsOk, IsErrOf, refl, sym, ap, subst, ◌∙◌, arith}
-use Rattle.std.specs.List.{find, AllByRecursion}
+use Rattle.std.specs.List.{find, filter, AllByRecursion}
+use Rattle.std.specs.Prelude.{◌≤◌, nat_le}
 use Rattle.std.specs.Option.{option_map}
-use Rattle.std.proofs.lemmas.Bool.{eq-eqb, ne_eqb, false≢true}
+use Rattle.std.proofs.lemmas.Bool.{eq-eqb, ne_eqb, false≢true, lt-ltb}
 use Rattle.std.proofs.lemmas.Option.{none-some, same_Some}
 use Rattle.disk_model.specs.Told.{Told}
 use Rattle.row_tables.specs.References.{HasUser}
@@ -16,7 +17,8 @@ use Rattle.session_view.specs.declared.sessions.Selection.{Selection}
 use Rattle.session_view.specs.declared.sessions.State.TheVariants.{Selected}
 use Rattle.session_view.specs.Parts.{with_state}
 use Rattle.mail_world.specs.Names.{mailbox_name}
-use Rattle.mail_world.specs.Worlds.{Mailbox, World, mailbox_at, mailbox_named}
+use Rattle.session_view.specs.Order.{rising}
+use Rattle.mail_world.specs.Worlds.{Entry, Mailbox, World, entry_at, mailbox_at, mailbox_named}
 use Rattle.mail_world.specs.Looking.{mailbox_id}
 use Rattle.mail_world.specs.Summaries.{uids_of, recent_of}
 use Rattle.mail_world.specs.Legal.{Ascend, IsLegal}
@@ -62,6 +64,39 @@ found_at p (x ∷ ms) m ascend found = by (p x) (found_at p ms m ascend.1) found
     by true rest e = first (same_Some x m e)
     by false rest e = rw (ne_eqb x.head.id m.head.id (less (later_found x.head.id p ms m ascend.0 e))) (rest e)
 
+-- ---- the UIDs of a mailbox, and those of its recent messages, ascend from 1 on
+
+rises : (last : ℕ) (uids : List ℕ) → AllByRecursion (λ uid. last < uid) uids → Ascend uids → rising last uids ≡ uids
+rises last [] all up = refl
+rises last (uid ∷ uids) all up = ap (λ b. cond b (uid ∷ rising uid uids) []) (lt-ltb last uid all.0) ∙ ap (λ l. uid ∷ l) (rises uid uids up.0 up.1)
+
+later_than : (n : ℕ) (uids : List ℕ) → AllByRecursion (λ uid. n < uid) uids → AllByRecursion (λ uid. 0 < uid) uids
+later_than n [] all = tt
+later_than n (uid ∷ uids) all = (omega (arith, all.0), later_than n uids all.1)
+
+from_one : (entries : List Entry) → ((uid : ℕ) (entry : Entry) → entry_at uid entries ≡ Some entry → 1 ≤ entry.uid) → Ascend (uids_of entries) → AllByRecursion (λ uid. 0 < uid) (uids_of entries)
+from_one [] given up = tt
+from_one (e ∷ entries) given up = (omega (arith, given e.uid e here), later_than e.uid (uids_of entries) up.0)
+  where
+    here : entry_at e.uid (e ∷ entries) ≡ Some e
+    here = rw (eq-eqb e.uid e.uid refl) refl
+
+all_kept : (p : Entry → Bool) (n : ℕ) (entries : List Entry) → AllByRecursion (λ uid. n < uid) (uids_of entries) → AllByRecursion (λ uid. n < uid) (uids_of (filter p entries))
+all_kept p n [] all = tt
+all_kept p n (e ∷ entries) all = by (p e) (all_kept p n entries all.1)
+  where
+    by : (b : Bool) → AllByRecursion (λ uid. n < uid) (uids_of (filter p entries)) → AllByRecursion (λ uid. n < uid) (uids_of (cond b (e ∷ filter p entries) (filter p entries)))
+    by true rest = (all.0, rest)
+    by false rest = rest
+
+ascend_kept : (p : Entry → Bool) (entries : List Entry) → Ascend (uids_of entries) → Ascend (uids_of (filter p entries))
+ascend_kept p [] up = tt
+ascend_kept p (e ∷ entries) up = by (p e) (all_kept p e.uid entries up.0) (ascend_kept p entries up.1)
+  where
+    by : (b : Bool) → AllByRecursion (λ uid. e.uid < uid) (uids_of (filter p entries)) → Ascend (uids_of (filter p entries)) → Ascend (uids_of (cond b (e ∷ filter p entries) (filter p entries)))
+    by true above rest = (above, rest)
+    by false above rest = rest
+
 -- A mailbox of a world, by its owner and name, and by its id.
 pub record IsFound (world : World) (user mailbox : ℕ) (name : List ℕ) : Type 0 where
   pub m : Mailbox
@@ -69,17 +104,32 @@ pub record IsFound (world : World) (user mailbox : ℕ) (name : List ℕ) : Type
   pub id : m.head.id ≡ mailbox
   pub at : mailbox_at mailbox world.mailboxes ≡ Some m
   pub few : length m.entries < 2 ^ 32
+  pub uids : rising 0 (uids_of m.entries) ≡ uids_of m.entries
+  pub recent : rising 0 (recent_of m) ≡ recent_of m
 
 module _ (world : World) (user mailbox : ℕ) (name : List ℕ) (legal : IsLegal world) where
   few_in : (m : Mailbox) → mailbox_at mailbox world.mailboxes ≡ Some m → length m.entries < 2 ^ 32
   few_in m at = omega (arith, (legal.mailboxes mailbox m at).itself.few)
+
+  above_zero : (m : Mailbox) → mailbox_at mailbox world.mailboxes ≡ Some m → AllByRecursion (λ uid. 0 < uid) (uids_of m.entries)
+  above_zero m at =
+      let its = (legal.mailboxes mailbox m at).itself in
+      from_one m.entries (λ uid entry found. (its.entries uid entry found).given.from_one) its.uids
+
+  uids_rise : (m : Mailbox) → mailbox_at mailbox world.mailboxes ≡ Some m → rising 0 (uids_of m.entries) ≡ uids_of m.entries
+  uids_rise m at = rises 0 (uids_of m.entries) (above_zero m at) (legal.mailboxes mailbox m at).itself.uids
+
+  recent_rise : (m : Mailbox) → mailbox_at mailbox world.mailboxes ≡ Some m → rising 0 (recent_of m) ≡ recent_of m
+  recent_rise m at =
+      let is_recent : Entry → Bool = λ entry. nat_le m.head.first_recent entry.uid in
+      rises 0 (recent_of m) (all_kept is_recent 0 m.entries (above_zero m at)) (ascend_kept is_recent m.entries (legal.mailboxes mailbox m at).itself.uids)
 
   found_by : (o : Option Mailbox) → mailbox_named user (mailbox_name name) world.mailboxes ≡ o → Some mailbox ≡ option_map (λ m. m.head.id) o → IsFound world user mailbox name
   found_by None found e = absurd (clash e)
     where
       clash : Some mailbox ≡ None → ⊥
       clash f = cc
-  found_by (Some m) found e = record { m = m; named = found; id = id; at = at; few = few_in m at }
+  found_by (Some m) found e = record { m = m; named = found; id = id; at = at; few = few_in m at; uids = uids_rise m at; recent = recent_rise m at }
     where
       some_is : (a b : ℕ) → Some a ≡ Some b → b ≡ a
       some_is a b f = cc
@@ -146,11 +196,11 @@ module _ (its : Summary) (m : Mailbox) (is : IsSummary its m) (mailbox : ℕ) (i
   abbrev chosen : Bool → ℕ → List ℕ → List ℕ → Selection
   chosen read_write mailbox uids recent = record { mailbox = mailbox; read_write = read_write; view = record { uids = uids; recent = recent } }
 
-  pub same_selection : (read_write : Bool) → selection_of read_write m ≡ selection_from its mailbox read_write
-  same_selection read_write =
+  pub same_selection : (read_write : Bool) → rising 0 (uids_of m.entries) ≡ uids_of m.entries → rising 0 (recent_of m) ≡ recent_of m → selection_of read_write m ≡ selection_from its mailbox read_write
+  same_selection read_write uids recent =
       ap (λ (k : ℕ). chosen read_write k (uids_of m.entries) (recent_of m)) id
-      ∙ (ap (λ (us : List ℕ). chosen read_write mailbox us (recent_of m)) (sym is.uids)
-      ∙ ap (λ (rs : List ℕ). chosen read_write mailbox its.uids rs) (sym is.recent))
+      ∙ (ap (λ (us : List ℕ). chosen read_write mailbox us (recent_of m)) (sym (ap (λ (us : List ℕ). rising 0 us) is.uids ∙ uids))
+      ∙ ap (λ (rs : List ℕ). chosen read_write mailbox (rising 0 its.uids) rs) (sym (ap (λ (rs : List ℕ). rising 0 rs) is.recent ∙ recent)))
 
   unless : (b : Bool) (change : Change) → cond b None (Some change) ≡ cond (not b) (Some change) None
   unless true change = refl
@@ -222,7 +272,7 @@ module _ {D : Type 0} (told : Told D) (old new : Store D) (parts : List SessionP
       does_selected world stands = record {
         stands = λ is. (changed_in world stands).stands ok;
         settled = λ is settled. (changed_in world stands).settled ok settled;
-        parts_are = λ is. parts_are ∙ ap (λ (s : Selection). with_state number (Selected user s) parts) (sym (same_selection its (found_in world stands).m (told_in world stands).0 mailbox (found_in world stands).id read_write));
+        parts_are = λ is. parts_are ∙ ap (λ (s : Selection). with_state number (Selected user s) parts) (sym (same_selection its (found_in world stands).m (told_in world stands).0 mailbox (found_in world stands).id read_write (found_in world stands).uids (found_in world stands).recent));
         tells = record { answer = λ is. (told_in world stands).1; outcome = (refl, refl) };
         leaves = λ since earlier left. (changed_in world stands).leaves since earlier left;
       }

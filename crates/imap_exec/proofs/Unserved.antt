@@ -2,6 +2,8 @@
 use Rattle.std.proofs.Common.{◌≡◌, ℕ, Bool, List, Option, refl}
 use Rattle.date_grammar.specs.declared.parts.Stamp.{Stamp}
 use Rattle.imap_grammar.specs.declared.flags.Flag.{Flag}
+use Rattle.imap_grammar.specs.declared.flags.FlagChange.{FlagChange}
+use Rattle.imap_grammar.specs.declared.sets.SeqSet.{SeqSet}
 use Rattle.imap_grammar.specs.declared.items.StatusItem.{StatusItem}
 use Rattle.imap_grammar.specs.declared.selecting.Resync.{Resync}
 use Rattle.imap_grammar.specs.declared.commands.Command.{Command}
@@ -27,6 +29,7 @@ pub record IsOther (command : Command) : Type 0 where
   pub list : (reference name : List ℕ) (subscribed : Bool) → command ≡ ListNames reference name subscribed → ⊥
   pub select : (name : List ℕ) (examine condstore : Bool) (resync : Option Resync) → command ≡ Select name examine condstore resync → ⊥
   pub append : (name : List ℕ) (flags : List Flag) (stamp : Option Stamp) (text : List ℕ) → command ≡ Append name flags stamp text → ⊥
+  pub store : (by_uid : Bool) (set : SeqSet) (unchanged_since : Option ℕ) (how : FlagChange) (silent : Bool) (flags : List Flag) → command ≡ Store by_uid set unchanged_since how silent flags → ⊥
 
 module _ (shared : Shared) (number now : ℕ) (state : State) (tag : List ℕ) where
   pub unserved_else : (command : Command) → IsOther command → commanded shared number state tag command now ≡ unserved shared tag
@@ -48,7 +51,7 @@ module _ (shared : Shared) (number now : ℕ) (state : State) (tag : List ℕ) w
   unserved_else Close other = refl
   unserved_else Expunge other = refl
   unserved_else (Enable a) other = refl
-  unserved_else (Store a b x y z u) other = refl
+  unserved_else (Store a b x y z u) other = absurd (other.store a b x y z u refl)
   unserved_else (Fetch a b x y z) other = refl
   unserved_else (Search a b x) other = refl
   unserved_else (Sort a b x y) other = refl

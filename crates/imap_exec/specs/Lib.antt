@@ -4,3 +4,4 @@ pub mod Answers
 pub mod Users
 pub mod Selecting
 pub mod Numbers
+pub mod Storing

@@ -8,6 +8,7 @@ use Rattle.row_store.specs.Kept.{Store, IfContents}
 use Rattle.row_store.specs.declared.faults.StoreFault.{StoreFault}
 use Rattle.session_view.specs.declared.sessions.SessionPart.{SessionPart}
 use Rattle.session_view.specs.declared.sessions.Selection.{Selection}
+use Rattle.session_view.specs.Order.{rising}
 use Rattle.mail_world.specs.Worlds.{World}
 use Rattle.mail_world.specs.Changes.{Change, TakeRecents}
 use Rattle.mail_stands.specs.Stands.{Stands}
@@ -21,9 +22,9 @@ use Rattle.imap_exec.specs.Ready.{IsReady}
 abbrev pub recents_if : Bool → ℕ → Option Change
 recents_if taken mailbox = if taken then Some (TakeRecents mailbox) else None
 
--- what a session has of a mailbox of which this was told
+-- what a session has of a mailbox of which this was told: the messages, as far as their UIDs ascend, as those of a mailbox do
 abbrev pub selection_from : Summary → ℕ → Bool → Selection
-selection_from its mailbox read_write = record { mailbox = mailbox; read_write = read_write; view = record { uids = its.uids; recent = its.recent } }
+selection_from its mailbox read_write = record { mailbox = mailbox; read_write = read_write; view = record { uids = rising 0 its.uids; recent = rising 0 its.recent } }
 
 -- Over tables that stand for a world: after Ok they stand for the world after the change, if there is one, and files that were at rest
 -- with them are so again. With whatever answer, what a crash leaves stands for the world before or after it, and for one of those

@@ -1,6 +1,7 @@
 -- Who a session is. These serve the contracts of private functions alone.
 use Rattle.std.specs.Prelude.{ℕ, Bool, true, false, List, Option, Some, None}
 use Rattle.imap_grammar.specs.declared.selecting.Resync.{Resync}
+use Rattle.session_view.specs.declared.sessions.Selection.{Selection}
 use Rattle.session_view.specs.declared.sessions.State.{State}
 use Rattle.session_view.specs.declared.sessions.State.TheVariants.{Fresh, Asked, Known, Selected}
 
@@ -22,6 +23,13 @@ is_selected Fresh = false
 is_selected (Asked tag) = false
 is_selected (Known user) = false
 is_selected (Selected user selection) = true
+
+-- what a session has selected
+abbrev pub selection_in : State → Option Selection
+selection_in Fresh = None
+selection_in (Asked tag) = None
+selection_in (Known user) = None
+selection_in (Selected user selection) = Some selection
 
 -- the tag of the AUTHENTICATE whose line is awaited
 abbrev pub tag_asked : State → Option (List ℕ)

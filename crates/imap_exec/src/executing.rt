@@ -17,6 +17,7 @@ use crate::rename::rename;
 use crate::select::select;
 use crate::simple::{capability, check, logout, unserved};
 use crate::status::status;
+use crate::store::store_flags;
 use crate::subscribe::{subscribe, unsubscribe};
 use disk_model::Disk;
 use imap_grammar::{Command, Tagged};
@@ -126,6 +127,27 @@ fn execute_tagged<D: Disk>(
             text,
         } => append(
             alloc, store, sessions, number, answer, tag, name, flags, stamp, text, now,
+        ),
+        Command::Store {
+            by_uid,
+            set,
+            unchanged_since,
+            how,
+            silent,
+            flags,
+        } => store_flags(
+            alloc,
+            store,
+            sessions,
+            number,
+            answer,
+            tag,
+            *by_uid,
+            set,
+            *unchanged_since,
+            *how,
+            *silent,
+            flags,
         ),
         _ => unserved(alloc, answer, tag),
     }

@@ -216,10 +216,7 @@ fn take_recents<D: Disk>(
 fn selected(user: u32, mailbox: u32, read_write: bool, its: Summary) -> State
     ensures { result ≡ Selected user (selection_from its mailbox read_write) }
 {
-    let view = View {
-        uids: its.uids,
-        recent: its.recent,
-    };
+    let view = View::new(its.uids, its.recent);
     State::Selected(
         user,
         Selection {

@@ -35,7 +35,8 @@ pub(crate) fn unfit(flags: &[Flag], date: &Option<Stamp>, text: &[u8]) -> Option
     }
 }
 
-fn are_fit_flags(flags: &[Flag]) -> bool
+// Whether each of the flags is one that a message can have.
+pub(crate) fn are_fit_flags(flags: &[Flag]) -> bool
     ensures { result ≡ list_all is_fit_flag_of flags.now }
 {
     flags.iter().all(|flag| is_fit_flag(flag))

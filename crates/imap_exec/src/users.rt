@@ -2,10 +2,11 @@
 
 ghost use Rattle.std.specs.Prelude.{◌≡◌, IfOk};
 ghost use Rattle.session_view.specs.Parts.{state_of};
-ghost use Rattle.imap_exec.specs.Users.{is_fresh, is_selected, tag_asked, user_in};
+ghost use Rattle.std.specs.Option.{option_copied};
+ghost use Rattle.imap_exec.specs.Users.{is_fresh, is_selected, selection_in, tag_asked, user_in};
 
 use octets::Octets;
-use session_view::{Sessions, State};
+use session_view::{Selection, Sessions, State};
 use std::alloc::{AllocError, Global};
 
 // The user as whom a session is authenticated.
@@ -36,6 +37,16 @@ pub(crate) fn is_selected(sessions: &Sessions, number: u32) -> bool
     match sessions.state(number) {
         Some(State::Selected(_, _)) => true,
         Some(State::Fresh) | Some(State::Asked(_)) | Some(State::Known(_)) | None => false,
+    }
+}
+
+// What a session has selected.
+pub(crate) fn selection_of(sessions: &Sessions, number: u32) -> Option<&Selection>
+    ensures { option_copied result ≡ selection_in (state_of number sessions.now) }
+{
+    match sessions.state(number) {
+        Some(State::Selected(_, selection)) => Some(selection),
+        Some(State::Fresh) | Some(State::Asked(_)) | Some(State::Known(_)) | None => None,
     }
 }
 

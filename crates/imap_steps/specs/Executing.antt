@@ -1,8 +1,10 @@
 -- What a command does (RFC 3501 §6).
 use Rattle.std.specs.Prelude.{ℕ, not, Bool, true, false, List, [], ◌++◌, Option, Some, None, Result, Ok, Err, codes, if◌then◌else◌}
 use Rattle.std.specs.List.{list_any}
+use Rattle.imap_grammar.specs.declared.flags.Flag.{Flag}
+use Rattle.imap_grammar.specs.declared.flags.FlagChange.{FlagChange}
 use Rattle.imap_grammar.specs.declared.commands.Command.{Command}
-use Rattle.imap_grammar.specs.declared.commands.Command.TheVariants.{Capability, Noop, Logout, Check, Login, Authenticate, Create, List as ListNames, Append, Select, Delete, Subscribe, Unsubscribe, Status, Rename}
+use Rattle.imap_grammar.specs.declared.commands.Command.TheVariants.{Capability, Noop, Logout, Check, Login, Authenticate, Create, List as ListNames, Append, Select, Delete, Subscribe, Unsubscribe, Status, Rename, Store}
 use Rattle.imap_grammar.specs.declared.commands.Tagged.{Tagged}
 use Rattle.imap_grammar.specs.declared.commands.Bad.{Bad}
 use Rattle.imap_grammar.specs.declared.commands.Bad.TheVariants.{WithTag, NoTag}
@@ -10,6 +12,7 @@ use Rattle.imap_grammar.specs.declared.items.StatusItem.{StatusItem}
 use Rattle.imap_grammar.specs.declared.selecting.Resync.{Resync}
 use Rattle.imap_writer.specs.declared.refusals.Refusal.TheVariants.{LiteralTooLong, Syntax, State as WrongState}
 use Rattle.imap_writer.specs.Tagged.{ok_line}
+use Rattle.session_view.specs.declared.sessions.Selection.{Selection}
 use Rattle.session_view.specs.declared.sessions.State.{State}
 use Rattle.session_view.specs.declared.sessions.State.TheVariants.{Fresh, Asked, Known, Selected}
 use Rattle.session_view.specs.Parts.{state_of}
@@ -21,6 +24,7 @@ use Rattle.imap_steps.specs.Listing.{list}
 use Rattle.imap_steps.specs.Managing.{delete, subscribe, unsubscribe}
 use Rattle.imap_steps.specs.Status.{status, is_highest}
 use Rattle.imap_steps.specs.Renaming.{rename}
+use Rattle.imap_steps.specs.Storing.{store}
 use Rattle.mail_world.specs.Names.{is_inbox}
 
 -- ---- when a command may be given
@@ -45,6 +49,13 @@ while_selected shared tag Fresh done = refused_with shared tag WrongState
 while_selected shared tag (Asked asked) done = refused_with shared tag WrongState
 while_selected shared tag (Known user) done = refused_with shared tag WrongState
 while_selected shared tag (Selected user selection) done = done
+
+-- the same, of what is selected
+abbrev pub of_selection : Shared → List ℕ → State → (Selection → Stepped) → Stepped
+of_selection shared tag Fresh done = refused_with shared tag WrongState
+of_selection shared tag (Asked asked) done = refused_with shared tag WrongState
+of_selection shared tag (Known user) done = refused_with shared tag WrongState
+of_selection shared tag (Selected user selection) done = done selection
 
 -- ---- what it does
 
@@ -78,6 +89,11 @@ abbrev pub rename_plainly : Shared → List ℕ → State → List ℕ → List 
 rename_plainly shared tag state from to =
     if is_inbox from then unserved shared tag else of_user shared tag state (λ user. rename shared user tag from to)
 
+-- STORE without what CONDSTORE brings, which isn't served yet (RFC 4551 §3.2)
+abbrev pub store_plainly : Shared → List ℕ → State → Bool → List (Option ℕ × Option ℕ) → Option ℕ → FlagChange → Bool → List Flag → Stepped
+store_plainly shared tag state by_uid ranges None how silent flags = of_selection shared tag state (λ selection. store shared tag selection by_uid ranges how silent flags)
+store_plainly shared tag state by_uid ranges (Some modseq) how silent flags = unserved shared tag
+
 -- What a command with its tag does in a session of a state.
 abbrev pub commanded : Shared → ℕ → State → List ℕ → Command → ℕ → Stepped
 commanded shared number state tag Capability now = capability shared tag
@@ -95,6 +111,7 @@ commanded shared number state tag (Rename from to) now = rename_plainly shared t
 commanded shared number state tag (Select name examine condstore resync) now = select_plainly shared number tag state name examine condstore resync
 commanded shared number state tag (Append name flags date text) now = of_user shared tag state (λ user. append shared user tag name flags date text now)
 commanded shared number state tag Check now = while_selected shared tag state (completed shared tag (codes "CHECK"))
+commanded shared number state tag (Store by_uid set unchanged how silent flags) now = store_plainly shared tag state by_uid set.ranges unchanged how silent flags
 commanded shared number state tag command now = unserved shared tag
 
 -- what a unit does that is a command, or none
