@@ -1,0 +1,4 @@
+mod DateLemmas
+mod AskedLemmas
+mod ReadingLemmas
+mod SameLemmas
