@@ -7,5 +7,6 @@ pub mod Managing
 pub mod Status
 pub mod Renaming
 pub mod Storing
+pub mod Fetching
 pub mod Executing
 pub mod Step
