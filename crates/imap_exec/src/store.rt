@@ -13,7 +13,7 @@ ghost use Rattle.mail_world.specs.Changes.{StoreFlags};
 ghost use Rattle.mail_world.specs.Applying.{refused};
 ghost use Rattle.mailbox_core.specs.Messages.{AreProper};
 ghost use Rattle.imap_steps.specs.Appending.{is_fit_flag};
-ghost use Rattle.imap_steps.specs.Storing.{store, stored, stored_unless};
+ghost use Rattle.imap_steps.specs.Storing.{store as store_of, stored, stored_unless};
 ghost use Rattle.imap_steps.specs.Executing.{of_selection, store_plainly};
 ghost use Rattle.imap_exec.specs.Ready.{IsReady};
 ghost use Rattle.imap_exec.specs.Does.{Executes};
@@ -79,7 +79,7 @@ fn store_selected<D: Disk>(
 ) -> Result<Outcome, StoreFault>
     requires ready { IsReady store.old sessions.now }
     ensures { Executes D.told result store.old store.new sessions.now sessions.now answer.old.items answer.new.items
-        (λ shared. of_selection shared tag.now (state_of number shared.parts) (λ selection. store shared tag.now selection by_uid set.now.ranges how silent flags.now)) }
+        (λ shared. of_selection shared tag.now (state_of number shared.parts) (λ selection. store_of shared tag.now selection by_uid set.now.ranges how silent flags.now)) }
 {
     match selection_of(sessions, number) {
         Some(selection) => store_fit(
@@ -106,7 +106,7 @@ fn store_fit<D: Disk>(
     requires fresh { store.old.placed ≡ [] }
     requires there { HasMailbox store.old.tables selection.now.mailbox }
     ensures { (parts : List SessionPart) → IsReady store.old parts → Executes D.told result store.old store.new parts parts answer.old.items answer.new.items
-        (λ shared. store shared tag.now selection.now by_uid set.now.ranges how silent flags.now) }
+        (λ shared. store_of shared tag.now selection.now by_uid set.now.ranges how silent flags.now) }
 {
     if !are_fit_flags(flags) {
         refuse(alloc, answer, tag, Refusal::Syntax)
