@@ -11,10 +11,9 @@ use Rattle.imap_grammar.specs.declared.commands.ParseFault.TheVariants as faults
 use Rattle.imap_grammar.specs.declared.commands.Bad.{Bad}
 use Rattle.imap_grammar.specs.declared.commands.Bad.TheVariants.{WithTag, NoTag}
 use Rattle.imap_grammar.specs.Commands.{Tells, meaning}
-use Rattle.imap_lexer.specs.Lexer.{form_of}
-use Rattle.imap_lexer.specs.declared.units.Form.{Form}
-use Rattle.imap_lexer.specs.declared.units.Shown.{Shown}
-use Rattle.imap_lexer.specs.declared.units.Shown.TheVariants as shown
+use Rattle.session_units.specs.declared.forms.Awaits.{Awaits}
+use Rattle.session_units.specs.declared.forms.Shown.{Shown}
+use Rattle.session_units.specs.declared.forms.Shown.TheVariants as shown
 use Rattle.imap_writer.specs.declared.refusals.Refusal.TheVariants.{LiteralTooLong, Mechanism, Syntax, State as WrongState}
 use Rattle.session_view.specs.declared.sessions.SessionPart.{SessionPart}
 use Rattle.session_view.specs.declared.sessions.Selection.{Selection}
@@ -140,18 +139,18 @@ module _ (shared : Shared) (number now : ℕ) where
   short_bad NoTag = refl
 
 module _ (shared : Shared) (number moment : ℕ) (unit : List ℕ) (shows : Shown) where
-  pub step_long : (form : Form) → shows ≡ shown.LineTooLong → step shared number form shows unit moment ≡ answered_last shared (bye (codes "line too long"))
+  pub step_long : (awaits : Awaits) → shows ≡ shown.LineTooLong → step shared number awaits shows unit moment ≡ answered_last shared (bye (codes "line too long"))
   unfolding step
-  step_long form is = ap (λ (s : Shown). shown_step shared number form s unit moment) is
+  step_long awaits is = ap (λ (s : Shown). shown_step shared number awaits s unit moment) is
 
-  pub step_literal : (form : Form) → shows ≡ shown.LiteralTooLong → step shared number form shows unit moment ≡ literal_refused shared (meaning unit)
+  pub step_literal : (awaits : Awaits) → shows ≡ shown.LiteralTooLong → step shared number awaits shows unit moment ≡ literal_refused shared (meaning unit)
   unfolding step
-  step_literal form is = ap (λ (s : Shown). shown_step shared number form s unit moment) is
+  step_literal awaits is = ap (λ (s : Shown). shown_step shared number awaits s unit moment) is
 
-  pub step_plain : (plain : Bool) → plain ≡ true → shows ≡ shown.Unit → step shared number (form_of plain) shows unit moment ≡ plain_by_state shared number unit (state_of number shared.parts)
+  pub step_text : (awaits : Awaits) → shows ≡ shown.TextTooLong → step shared number awaits shows unit moment ≡ refused_untagged shared
   unfolding step
-  step_plain plain so is = ap (λ (s : Shown). shown_step shared number (form_of plain) s unit moment) is ∙ ap (λ (b : Bool). whole_step shared number (form_of b) unit moment) so
+  step_text awaits is = ap (λ (s : Shown). shown_step shared number awaits s unit moment) is
 
-  pub step_command : (plain : Bool) → plain ≡ false → shows ≡ shown.Unit → step shared number (form_of plain) shows unit moment ≡ executed shared number (meaning unit) moment
+  pub step_whole : (awaits : Awaits) → shows ≡ shown.Unit → step shared number awaits shows unit moment ≡ whole_step shared number awaits unit moment
   unfolding step
-  step_command plain so is = ap (λ (s : Shown). shown_step shared number (form_of plain) s unit moment) is ∙ ap (λ (b : Bool). whole_step shared number (form_of b) unit moment) so
+  step_whole awaits is = ap (λ (s : Shown). shown_step shared number awaits s unit moment) is

@@ -8,8 +8,7 @@ use Rattle.row_store.specs.Holding.{in_row, stored_by}
 use Rattle.row_store.specs.Crashes.{IsSettled}
 use Rattle.row_store.specs.Kept.{Store}
 use Rattle.row_store.specs.declared.faults.StoreFault.{StoreFault}
-use Rattle.imap_lexer.specs.Lexer.{form_of}
-use Rattle.imap_lexer.specs.declared.units.Form.TheVariants.{Command as AwaitsCommand}
+use Rattle.session_units.specs.declared.forms.Awaits.TheVariants.{Command as AwaitsCommand}
 use Rattle.imap_writer.specs.declared.refusals.Refusal as line
 use Rattle.session_view.specs.declared.sessions.SessionPart.{SessionPart}
 use Rattle.mail_world.specs.Worlds.{World, no_world}
@@ -161,7 +160,7 @@ module _ {D T : Type 0} (told : Told D) (call : Result T MailFault) (result : Re
       parts_are = λ ok. refl;
       tells = record {
         answer = λ ok. (completed_so its ok).answer ok;
-        outcome = if_done result (λ outcome. (outcome.closes ≡ false) × (form_of outcome.plain ≡ AwaitsCommand)) (λ ok. (completed_so its ok).outcome);
+        outcome = if_done result (λ outcome. (outcome.closes ≡ false) × (outcome.awaits ≡ AwaitsCommand)) (λ ok. (completed_so its ok).outcome);
       };
       leaves = λ since earlier left. subst (λ (w : World). Left told new.files since (w ∷ world ∷ earlier)) is_next (its.since since earlier left);
     }

@@ -12,6 +12,7 @@ use Rattle.row_store.specs.Holding.{in_row}
 use Rattle.row_store.specs.Kept.{Store}
 use Rattle.row_store.specs.declared.faults.StoreFault.{StoreFault}
 use Rattle.imap_writer.specs.Tagged.{ok_line}
+use Rattle.session_units.specs.declared.forms.Awaits.TheVariants.{Command as AwaitsCommand}
 use Rattle.session_view.specs.declared.sessions.SessionPart.{SessionPart}
 use Rattle.session_view.specs.declared.sessions.Selection.{Selection}
 use Rattle.session_view.specs.declared.sessions.State.TheVariants.{Selected}
@@ -217,7 +218,7 @@ module _ (its : Summary) (m : Mailbox) (is : IsSummary its m) (mailbox : ℕ) (i
 -- ---- SELECT and EXAMINE
 
 abbrev opened : Result Outcome StoreFault
-opened = Ok (record { closes = false; plain = false })
+opened = Ok (record { closes = false; awaits = AwaitsCommand })
 
 module _ {D : Type 0} (told : Told D) (old new : Store D) (parts : List SessionPart) (before after : List ℕ) (number user mailbox : ℕ) (tag name : List ℕ) (read_write : Bool) (its : Summary) (call : Result (Unit {0}) StoreFault) (ready : IsReady old parts) where
   abbrev sharing : World → Shared

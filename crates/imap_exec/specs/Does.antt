@@ -1,7 +1,6 @@
 -- What the calls that carry out a step promise.
 use Rattle.std.specs.Prelude.{◌≡◌, ℕ, ◌++◌, List, ◌∷◌, Option, Some, None, Result, IsOk, IsErrOf, IfOk}
 use Rattle.disk_model.specs.Told.{Told}
-use Rattle.imap_lexer.specs.Lexer.{form_of}
 use Rattle.row_store.specs.ThreeFiles.{LogMoments, TellsFaults}
 use Rattle.row_store.specs.Holding.{stored_by}
 use Rattle.row_store.specs.Crashes.{IsSettled}
@@ -19,7 +18,7 @@ use Rattle.imap_exec.specs.Ready.{IsReady}
 -- After Ok the answer of a step was added, and what becomes of the link is told.
 pub record Tells (result : Result Outcome StoreFault) (before after : List ℕ) (stepped : Stepped) : Type 0 where
   pub answer : IsOk result → after ≡ before ++ stepped.answer
-  pub outcome : IfOk result (λ outcome. (outcome.closes ≡ stepped.closes) × (form_of outcome.plain ≡ stepped.next))
+  pub outcome : IfOk result (λ outcome. (outcome.closes ≡ stepped.closes) × (outcome.awaits ≡ stepped.next))
 
 -- the worlds that a step goes through, the newest first, in front of those before its own
 abbrev pub worlds_after : World → Option Change → List World → List World

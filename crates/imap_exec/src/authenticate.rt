@@ -14,6 +14,7 @@ use imap_steps::Outcome;
 use imap_writer::Refusal;
 use octets::Octets;
 use row_store::StoreFault;
+use session_units::Awaits;
 use session_view::{Sessions, State};
 use std::alloc::Global;
 
@@ -78,6 +79,6 @@ fn ask(
     sessions.set_state(number, State::Asked(tag));
     Ok(Outcome {
         closes: false,
-        plain: true,
+        awaits: Awaits::PlainLine,
     })
 }

@@ -10,6 +10,7 @@ use imap_writer::{Refusal, tagged_no, tagged_ok};
 use mailbox_core::MailFault;
 use octets::Octets;
 use row_store::StoreFault;
+use session_units::Awaits;
 use std::alloc::Global;
 
 // Answers these bytes.
@@ -19,7 +20,7 @@ pub(crate) fn say(answer: &mut Vec<u8>, text: &[u8]) -> Result<Outcome, StoreFau
     answer.extend_from_slice(text)?;
     Ok(Outcome {
         closes: false,
-        plain: false,
+        awaits: Awaits::Command,
     })
 }
 
@@ -30,7 +31,7 @@ pub(crate) fn say_last(answer: &mut Vec<u8>, text: &[u8]) -> Result<Outcome, Sto
     answer.extend_from_slice(text)?;
     Ok(Outcome {
         closes: true,
-        plain: false,
+        awaits: Awaits::Command,
     })
 }
 

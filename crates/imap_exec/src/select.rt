@@ -31,6 +31,7 @@ use imap_writer::{Refusal, tagged_ok};
 use mailbox_core::Summary;
 use octets::Octets;
 use row_store::{RowStore, StoreFault};
+use session_units::Awaits;
 use session_view::{Selection, Sessions, State, View};
 use std::alloc::{AllocError, Global};
 
@@ -142,7 +143,7 @@ fn open<D: Disk>(
     sessions.set_state(number, selected(user, mailbox, read_write, its));
     Ok(Outcome {
         closes: false,
-        plain: false,
+        awaits: Awaits::Command,
     })
 }
 

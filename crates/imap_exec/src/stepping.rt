@@ -1,28 +1,27 @@
 //! What one unit of one session does.
 
-ghost use Rattle.imap_lexer.specs.Lexer.{form_of};
 ghost use Rattle.imap_grammar.specs.Commands.{meaning};
 ghost use Rattle.imap_steps.specs.Stepping.{Shared};
 ghost use Rattle.imap_steps.specs.Executing.{executed, literal_refused};
-ghost use Rattle.imap_steps.specs.Step.{step};
+ghost use Rattle.imap_steps.specs.Step.{step, whole_step};
 ghost use Rattle.imap_exec.specs.Ready.{IsReady};
 ghost use Rattle.imap_exec.specs.Does.{Executes};
 ghost use Rattle.imap_exec.specs.Answers.{Says};
 
 use crate::executing::execute;
-use crate::lines::{refuse_bad, refuse_tag, say_last};
+use crate::lines::{refuse, refuse_bad, refuse_tag, say_last};
 use crate::plain_lines::plain_line;
 use disk_model::Disk;
 use imap_grammar::{ParseFault, parse};
-use imap_lexer::Shown;
 use imap_steps::Outcome;
 use imap_writer::Refusal;
 use row_store::{RowStore, StoreFault};
+use session_units::{Awaits, Shown};
 use session_view::Sessions;
 use std::alloc::Global;
 
-/// Does what a unit of the session of a number shows, and adds its answer. `plain` says that the unit was awaited as a line without
-/// literals, `now` when its last byte came, in seconds since 1970.
+/// Does what a unit of the session of a number shows, and adds its answer. `awaits` is the form in which the unit was awaited, `now`
+/// when its last byte came, in seconds since 1970.
 ///
 /// A fault or want of memory gives the store up: its files are to be loaded again, and what was answered may lack its end.
 pub fn step<D: Disk>(
@@ -30,7 +29,7 @@ pub fn step<D: Disk>(
     store: &mut RowStore<D>,
     sessions: &mut Sessions,
     number: u32,
-    plain: bool,
+    awaits: Awaits,
     shown: Shown,
     unit: &[u8],
     now: u64,
@@ -38,18 +37,36 @@ pub fn step<D: Disk>(
 ) -> Result<Outcome, StoreFault>
     requires ready { IsReady store.old sessions.old }
     ensures { Executes D.told result store.old store.new sessions.old sessions.new answer.old.items answer.new.items
-        (λ shared. step shared number (form_of plain) shown unit.now now) }
+        (λ shared. step shared number awaits shown unit.now now) }
 {
     match shown {
         Shown::LineTooLong => say_last(answer, b"* BYE line too long\r\n"),
         Shown::LiteralTooLong => literal_refused(alloc, unit, answer),
-        Shown::Unit => {
-            if plain {
-                plain_line(alloc, store, sessions, number, unit, answer)
-            } else {
-                execute_unit(alloc, store, sessions, number, unit, now, answer)
-            }
-        }
+        Shown::TextTooLong => refuse(alloc, answer, b"*", Refusal::Syntax),
+        Shown::Unit => whole_unit(alloc, store, sessions, number, awaits, unit, now, answer),
+    }
+}
+
+// Does what a whole unit asks, by the form in which it was awaited.
+fn whole_unit<D: Disk>(
+    alloc: Global,
+    store: &mut RowStore<D>,
+    sessions: &mut Sessions,
+    number: u32,
+    awaits: Awaits,
+    unit: &[u8],
+    now: u64,
+    answer: &mut Vec<u8>,
+) -> Result<Outcome, StoreFault>
+    requires ready { IsReady store.old sessions.old }
+    ensures { Executes D.told result store.old store.new sessions.old sessions.new answer.old.items answer.new.items
+        (λ shared. whole_step shared number awaits unit.now now) }
+{
+    match awaits {
+        Awaits::Command => execute_unit(alloc, store, sessions, number, unit, now, answer),
+        Awaits::PlainLine => plain_line(alloc, store, sessions, number, unit, answer),
+        Awaits::LmtpLine => refuse(alloc, answer, b"*", Refusal::Syntax),
+        Awaits::LmtpText => refuse(alloc, answer, b"*", Refusal::Syntax),
     }
 }
 

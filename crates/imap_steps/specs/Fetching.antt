@@ -3,7 +3,7 @@ use Rattle.std.specs.Prelude.{ℕ, ◌&&◌, not, Bool, true, false, List, [], �
 use Rattle.std.specs.List.{list_any}
 use Rattle.std.specs.Option.{unwrap_or}
 use Rattle.canon_writer.specs.Printing.{print}
-use Rattle.imap_lexer.specs.declared.units.Form.TheVariants.{Command as AwaitsCommand}
+use Rattle.session_units.specs.declared.forms.Awaits.TheVariants.{Command as AwaitsCommand}
 use Rattle.imap_grammar.specs.declared.flags.Flag.TheVariants.{Seen}
 use Rattle.imap_grammar.specs.declared.flags.FlagChange.TheVariants.{Add}
 use Rattle.imap_grammar.specs.declared.items.FetchItem.{FetchItem}

@@ -3,7 +3,7 @@ use Rattle.std.specs.Prelude.{ℕ, ◌+◌, ◌-◌, ◌==◌, ◌||◌, Bool, f
 use Rattle.std.specs.List.{position}
 use Rattle.std.specs.Option.{option_map, option_and_then}
 use Rattle.std.specs.Str.{str_eq_ignore_ascii_case}
-use Rattle.imap_lexer.specs.declared.units.Form.TheVariants.{Plain as AwaitsPlain}
+use Rattle.session_units.specs.declared.forms.Awaits.TheVariants.{PlainLine as AwaitsPlain}
 use Rattle.imap_writer.specs.declared.refusals.Refusal.TheVariants.{Syntax, Mechanism, LoginFailed}
 use Rattle.imap_writer.specs.Tagged.{ok_line, no_line}
 use Rattle.transfer_codec.specs.Base64.{decoded}

@@ -1,6 +1,6 @@
 -- A mailbox that is selected (RFC 3501 §6.3.1, §6.3.2).
 use Rattle.std.specs.Prelude.{ℕ, ◌+◌, ◌==◌, Bool, true, false, List, [], ◌++◌, Option, Some, None, codes, length, if◌then◌else◌}
-use Rattle.imap_lexer.specs.declared.units.Form.TheVariants.{Command as AwaitsCommand}
+use Rattle.session_units.specs.declared.forms.Awaits.TheVariants.{Command as AwaitsCommand}
 use Rattle.imap_writer.specs.declared.refusals.Refusal.TheVariants.{Absent}
 use Rattle.imap_writer.specs.Tagged.{ok_line, no_line}
 use Rattle.imap_writer.specs.Lines.{exists_line, recent_line, flags_line, unseen_line, permanent_line, uidnext_line, uidvalidity_line}

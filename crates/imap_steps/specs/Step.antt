@@ -2,10 +2,10 @@
 use Rattle.std.specs.Prelude.{ℕ, Bool, false, true, List, [], ◌∷◌, ◌++◌, None, codes, nat_lt, if◌then◌else◌}
 use Rattle.port_model.specs.declared.calls.Kind.{Kind}
 use Rattle.port_model.specs.declared.calls.Kind.TheVariants.{Imap, Lmtp}
-use Rattle.imap_lexer.specs.declared.units.Form.{Form}
-use Rattle.imap_lexer.specs.declared.units.Form.TheVariants.{Command as AwaitsCommand, Plain as AwaitsPlain}
-use Rattle.imap_lexer.specs.declared.units.Shown.{Shown}
-use Rattle.imap_lexer.specs.declared.units.Shown.TheVariants.{Unit as Whole, LineTooLong, LiteralTooLong}
+use Rattle.session_units.specs.declared.forms.Awaits.{Awaits}
+use Rattle.session_units.specs.declared.forms.Awaits.TheVariants.{Command as AwaitsCommand, PlainLine as AwaitsPlain, LmtpLine as AwaitsLine, LmtpText as AwaitsText}
+use Rattle.session_units.specs.declared.forms.Shown.{Shown}
+use Rattle.session_units.specs.declared.forms.Shown.TheVariants.{Unit as Whole, LineTooLong, LiteralTooLong, TextTooLong}
 use Rattle.imap_grammar.specs.Commands.{meaning}
 use Rattle.session_view.specs.declared.sessions.State.{State}
 use Rattle.session_view.specs.declared.sessions.State.TheVariants.{Fresh, Asked, Known, Selected}
@@ -21,21 +21,24 @@ plain_by_state shared number unit Fresh = refused_untagged shared
 plain_by_state shared number unit (Known user) = refused_untagged shared
 plain_by_state shared number unit (Selected user selection) = refused_untagged shared
 
--- what a whole unit does, by the form in which it was awaited
-abbrev pub whole_step : Shared → ℕ → Form → List ℕ → ℕ → Stepped
+-- What a whole unit does, by the form in which it was awaited. No session awaits lines or texts of LMTP, which isn't served yet.
+abbrev pub whole_step : Shared → ℕ → Awaits → List ℕ → ℕ → Stepped
 whole_step shared number AwaitsCommand unit moment = executed shared number (meaning unit) moment
 whole_step shared number AwaitsPlain unit moment = plain_by_state shared number unit (state_of number shared.parts)
+whole_step shared number AwaitsLine unit moment = refused_untagged shared
+whole_step shared number AwaitsText unit moment = refused_untagged shared
 
 -- what a unit does, by what it shows
-abbrev pub shown_step : Shared → ℕ → Form → Shown → List ℕ → ℕ → Stepped
-shown_step shared number form LineTooLong unit moment = answered_last shared (bye (codes "line too long"))
-shown_step shared number form LiteralTooLong unit moment = literal_refused shared (meaning unit)
-shown_step shared number form Whole unit moment = whole_step shared number form unit moment
+abbrev pub shown_step : Shared → ℕ → Awaits → Shown → List ℕ → ℕ → Stepped
+shown_step shared number awaits LineTooLong unit moment = answered_last shared (bye (codes "line too long"))
+shown_step shared number awaits LiteralTooLong unit moment = literal_refused shared (meaning unit)
+shown_step shared number awaits TextTooLong unit moment = refused_untagged shared
+shown_step shared number awaits Whole unit moment = whole_step shared number awaits unit moment
 
 -- What a unit of the session of a number does, with the form in which it was awaited, what it shows, and the moment
 -- of its last byte in seconds since 1970.
-unfoldable pub step : Shared → ℕ → Form → Shown → List ℕ → ℕ → Stepped
-step shared number form shows unit moment = shown_step shared number form shows unit moment
+unfoldable pub step : Shared → ℕ → Awaits → Shown → List ℕ → ℕ → Stepped
+step shared number awaits shows unit moment = shown_step shared number awaits shows unit moment
 
 -- How many sessions are served at once.
 abbrev pub session_limit : ℕ

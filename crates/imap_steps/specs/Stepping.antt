@@ -1,8 +1,8 @@
 -- What a step leaves, and the steps that commands are made of.
 use Rattle.std.specs.Prelude.{ℕ, not, Bool, true, false, List, [], ◌++◌, Option, Some, None, codes, filter, if◌then◌else◌}
 use Rattle.std.specs.List.{list_any}
-use Rattle.imap_lexer.specs.declared.units.Form.{Form}
-use Rattle.imap_lexer.specs.declared.units.Form.TheVariants.{Command as AwaitsCommand}
+use Rattle.session_units.specs.declared.forms.Awaits.{Awaits}
+use Rattle.session_units.specs.declared.forms.Awaits.TheVariants.{Command as AwaitsCommand}
 use Rattle.imap_writer.specs.declared.refusals.Refusal.{Refusal}
 use Rattle.imap_writer.specs.declared.refusals.Refusal.TheVariants as line
 use Rattle.imap_writer.specs.Tagged.{ok_line, no_line}
@@ -41,7 +41,7 @@ pub record Stepped : Type 0 where
   pub answer : List ℕ
   pub parts : List SessionPart
   pub closes : Bool
-  pub next : Form
+  pub next : Awaits
 
 -- What is left of what sessions share once a session took leave: its own part is gone.
 unfoldable pub left_by : Shared → ℕ → Shared

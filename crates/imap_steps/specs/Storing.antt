@@ -2,7 +2,7 @@
 use Rattle.std.specs.Prelude.{ℕ, ◌&&◌, not, Bool, true, false, List, [], ◌∷◌, ◌++◌, Option, Some, None, codes, decimal, map, filter, flat_map, is_some, if◌then◌else◌}
 use Rattle.std.specs.List.{list_all, list_any}
 use Rattle.std.specs.Option.{option_and_then, unwrap_or}
-use Rattle.imap_lexer.specs.declared.units.Form.TheVariants.{Command as AwaitsCommand}
+use Rattle.session_units.specs.declared.forms.Awaits.TheVariants.{Command as AwaitsCommand}
 use Rattle.imap_grammar.specs.declared.flags.Flag.{Flag}
 use Rattle.imap_grammar.specs.declared.flags.Flag.TheVariants.{Answered, Flagged, Deleted, Seen, Draft, Keyword}
 use Rattle.imap_grammar.specs.declared.flags.FlagChange.{FlagChange}

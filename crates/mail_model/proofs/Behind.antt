@@ -3,7 +3,8 @@
 use Rattle.std.proofs.Common.{ℕ, ◌≡◌, ◌+◌, ◌≤◌, Bool, true, false, List, [], ◌∷◌, ◌++◌, Option, Some, None, cond, refl, ap, sym, ◌∙◌, arith, append_assoc, length, length-append, map}
 use Rattle.port_model.specs.declared.calls.PortCall.{PortCall}
 use Rattle.port_model.specs.History.{PortEvent, Opened, Piece, Ended, Lost, sent}
-use Rattle.imap_lexer.specs.Units.{Cut, first}
+use Rattle.session_units.specs.Awaited.{awaits_of}
+use Rattle.session_units.specs.Units.{Cut, first}
 use Rattle.mail_model.specs.declared.standing.Standing.TheVariants.{Closing}
 use Rattle.imap_steps.specs.Stepping.{World, Change, Shared, left_by}
 use Rattle.imap_steps.specs.Step.{step, greeting}
@@ -26,13 +27,13 @@ and-own (Some change) number from count older all = (refl, all)
 
 byte-own : (moment : ℕ) (taking : Taking) (byte : ℕ) → IsOwn taking → IsOwn (take_byte moment taking byte)
 unfolding take_byte
-byte-own moment taking byte own = by (is_open taking.session.standing) (first taking.session.form (taking.session.rest ++ byte ∷ []))
+byte-own moment taking byte own = by (is_open taking.session.standing) (first taking.session.awaited (byte ∷ []))
   where
     by : (is_served : Bool) (found : Option Cut)
-        → IsOwn (cond is_served (elim found as (λ (f : Option Cut). Taking) [ None ↦ awaits_more taking (taking.session.rest ++ byte ∷ []) | Some cut ↦ take_unit moment taking cut ]) taking)
+        → IsOwn (cond is_served (elim found as (λ (f : Option Cut). Taking) [ None ↦ awaits_more taking byte | Some cut ↦ take_unit moment taking cut ]) taking)
     by true None = own
     by true (Some cut) =
-        let stepped = step taking.shared taking.session.number taking.session.form cut.shows cut.unit moment in
+        let stepped = step taking.shared taking.session.number (awaits_of taking.session.awaited) cut.shows cut.unit moment in
         and-own stepped.change taking.session.number (length taking.answers) (length stepped.answer) taking.changes own
     by false found = own
 

@@ -3,8 +3,8 @@ use Rattle.std.proofs.Common.{ℕ, ◌≡◌, ◌≢◌, ◌==◌, ◌+◌, Bool
 use Rattle.std.proofs.lemmas.Bool.Decides.{nat_tests}
 use Rattle.std.proofs.lemmas.Option.{same_Some}
 use Rattle.port_model.specs.History.{PortEvent, Opened, Piece, Ended, Lost}
-use Rattle.imap_lexer.specs.declared.units.Form.{Form}
-use Rattle.imap_lexer.specs.Units.{Cut, is_prompted, shown, first}
+use Rattle.session_units.specs.Awaited.{Awaited, is_prompting, with_more}
+use Rattle.session_units.specs.Units.{Cut, first}
 use Rattle.mail_model.specs.declared.standing.Standing.{Standing}
 use Rattle.mail_model.specs.declared.standing.Standing.TheVariants.{Closing}
 use Rattle.imap_steps.specs.Stepping.{World, Shared, Stepped, left_by}
@@ -12,7 +12,7 @@ use Rattle.imap_steps.specs.Step.{greeting}
 use Rattle.mail_model.specs.Machine.{Machine, Session, Taking, is_open, and_change, behind, adds, becomes, at_once, go_ahead, awaits_more, take_unit, take_byte, take_piece, taking_of, leaves, takes, opens, session_at, hears_piece, take_event, machine}
 use Rattle.mail_model.specs.Pieces.{goes_on}
 use Rattle.mail_model.specs.Between.{link_of, IsAlone, EndsNoUnit}
-use Rattle.mail_model.proofs.Units.{Stays, awaits, take_byte-closed}
+use Rattle.mail_model.proofs.Units.{GoesOn, Stays, awaits, take_byte-closed}
 
 -- Numbers
 
@@ -27,21 +27,21 @@ both_numbers a b n e ea eb = grind (arith, nat_tests)
 
 -- What such a piece leaves, whatever is shared
 
-abbrev prompted : Form → List ℕ → List ℕ → List ℕ → List ℕ
-prompted form rest answers [] = answers
-prompted form rest answers (byte ∷ piece) =
-    prompted form (rest ++ byte ∷ []) (cond (is_prompted (shown form (rest ++ byte ∷ []))) (answers ++ go_ahead) answers) piece
+abbrev prompted : Awaited → List ℕ → List ℕ → List ℕ
+prompted awaited answers [] = answers
+prompted awaited answers (byte ∷ piece) =
+    prompted (with_more awaited (byte ∷ [])) (cond (is_prompting (with_more awaited (byte ∷ []))) (answers ++ go_ahead) answers) piece
 
-abbrev joined : List ℕ → List ℕ → List ℕ
-joined rest [] = rest
-joined rest (byte ∷ piece) = joined (rest ++ byte ∷ []) piece
+abbrev joined : Awaited → List ℕ → Awaited
+joined awaited [] = awaited
+joined awaited (byte ∷ piece) = joined (with_more awaited (byte ∷ [])) piece
 
-went_on : (shared : Shared) (session : Session) (rest answers : List ℕ) (piece : List ℕ)
-    → goes_on (record { shared = shared; session = record session { rest = rest }; answers = answers; changes = [] }) piece
-    ≡ record { shared = shared; session = record session { rest = joined rest piece }; answers = prompted session.form rest answers piece; changes = [] }
-went_on shared session rest answers [] = refl
-went_on shared session rest answers (byte ∷ piece) =
-    went_on shared session (rest ++ byte ∷ []) (cond (is_prompted (shown session.form (rest ++ byte ∷ []))) (answers ++ go_ahead) answers) piece
+went_on : (shared : Shared) (session : Session) (awaited : Awaited) (answers : List ℕ) (piece : List ℕ)
+    → goes_on (record { shared = shared; session = record session { awaited = awaited }; answers = answers; changes = [] }) piece
+    ≡ record { shared = shared; session = record session { awaited = joined awaited piece }; answers = prompted awaited answers piece; changes = [] }
+went_on shared session awaited answers [] = refl
+went_on shared session awaited answers (byte ∷ piece) =
+    went_on shared session (with_more awaited (byte ∷ [])) (cond (is_prompting (with_more awaited (byte ∷ []))) (answers ++ go_ahead) answers) piece
 
 dropped : (moment : ℕ) (taking : Taking) (piece : List ℕ) → is_open taking.session.standing ≡ false → take_piece moment taking piece ≡ taking
 dropped moment taking [] h = refl
@@ -49,11 +49,11 @@ dropped moment taking (byte ∷ piece) h = ap (λ (t : Taking). take_piece momen
 
 -- a session with more of a unit
 abbrev longer : Session → List ℕ → Session
-longer session piece = record session { rest = cond (is_open session.standing) (joined session.rest piece) session.rest }
+longer session piece = record session { awaited = cond (is_open session.standing) (joined session.awaited piece) session.awaited }
 
 -- the prompts for it
 abbrev prompts : Session → List ℕ → List ℕ
-prompts session piece = cond (is_open session.standing) (prompted session.form session.rest [] piece) []
+prompts session piece = cond (is_open session.standing) (prompted session.awaited [] piece) []
 
 -- the machine after it
 abbrev quiet : Session → List ℕ → Machine → Machine
@@ -65,19 +65,19 @@ quiet session piece before = record {
   last = before.last;
 }
 
-heard : Stays → (moment : ℕ) (piece : List ℕ) (before : Machine) (session : Session) → EndsNoUnit (Some session) piece
+heard : Stays → GoesOn → (moment : ℕ) (piece : List ℕ) (before : Machine) (session : Session) → EndsNoUnit (Some session) piece
     → takes before (hears_piece moment piece before.shared session) ≡ quiet session piece before
-heard stays moment piece before session none = by (is_open session.standing) refl
+heard stays goes moment piece before session none = by (is_open session.standing) refl
   where
     by : (served : Bool) → is_open session.standing ≡ served
         → takes before (take_piece moment (taking_of before.shared session) piece)
         ≡ takes before (record {
           shared = before.shared;
-          session = record session { rest = cond served (joined session.rest piece) session.rest };
-          answers = cond served (prompted session.form session.rest [] piece) [];
+          session = record session { awaited = cond served (joined session.awaited piece) session.awaited };
+          answers = cond served (prompted session.awaited [] piece) [];
           changes = [];
         })
-    by true e = ap (takes before) (awaits stays moment (taking_of before.shared session) piece e (none e) ∙ went_on before.shared session session.rest [] piece)
+    by true e = ap (takes before) (awaits stays goes moment (taking_of before.shared session) piece e (none e) ∙ went_on before.shared session session.awaited [] piece)
     by false e = ap (takes before) (dropped moment (taking_of before.shared session) piece e)
 
 -- Sessions by their numbers
@@ -193,10 +193,10 @@ quiet_takes session piece before taking ne en =
 -- whoever acts keeps its number
 number_of_byte : (moment : ℕ) (taking : Taking) (byte : ℕ) → (take_byte moment taking byte).session.number ≡ taking.session.number
 unfolding take_byte
-number_of_byte moment taking byte = by (is_open taking.session.standing) (first taking.session.form (taking.session.rest ++ byte ∷ []))
+number_of_byte moment taking byte = by (is_open taking.session.standing) (first taking.session.awaited (byte ∷ []))
   where
     by : (served : Bool) (found : Option Cut)
-        → (cond served (elim found as (λ (f : Option Cut). Taking) [ None ↦ awaits_more taking (taking.session.rest ++ byte ∷ []) | Some cut ↦ take_unit moment taking cut ]) taking).session.number
+        → (cond served (elim found as (λ (f : Option Cut). Taking) [ None ↦ awaits_more taking byte | Some cut ↦ take_unit moment taking cut ]) taking).session.number
         ≡ taking.session.number
     by true None = refl
     by true (Some cut) = refl
@@ -259,18 +259,18 @@ still_there who before (Ended number) other = still_acts who number before (diff
 still_there who before (Lost number) other = still_acts who number before (differs number who other) leaves number_of_left (session_at number before.sessions) refl
 
 -- the moment of such a piece doesn't matter
-pub any_moment : Stays → (before : Machine) (number earlier later : ℕ) (piece : List ℕ) → EndsNoUnit (session_at number before.sessions) piece
+pub any_moment : Stays → GoesOn → (before : Machine) (number earlier later : ℕ) (piece : List ℕ) → EndsNoUnit (session_at number before.sessions) piece
     → take_event before (Piece number piece earlier) ≡ take_event before (Piece number piece later)
-any_moment stays before number earlier later piece none = by (session_at number before.sessions) none
+any_moment stays goes before number earlier later piece none = by (session_at number before.sessions) none
   where
     by : (found : Option Session) → EndsNoUnit found piece → acted before (hears_piece earlier piece) found ≡ acted before (hears_piece later piece) found
     by None ends = refl
-    by (Some session) ends = heard stays earlier piece before session ends ∙ sym (heard stays later piece before session ends)
+    by (Some session) ends = heard stays goes earlier piece before session ends ∙ sym (heard stays goes later piece before session ends)
 
-pub either_order : Stays → (before : Machine) (number earlier later : ℕ) (piece : List ℕ) (event : PortEvent) → link_of event ≢ number → IsAlone number before.sessions
+pub either_order : Stays → GoesOn → (before : Machine) (number earlier later : ℕ) (piece : List ℕ) (event : PortEvent) → link_of event ≢ number → IsAlone number before.sessions
     → EndsNoUnit (session_at number before.sessions) piece
     → take_event (take_event before (Piece number piece earlier)) event ≡ take_event (take_event before event) (Piece number piece later)
-either_order stays before number earlier later piece event other alone none = by (session_at number before.sessions) refl
+either_order stays goes before number earlier later piece event other alone none = by (session_at number before.sessions) refl
   where
     by : (found : Option Session) → session_at number before.sessions ≡ found
         → take_event (take_event before (Piece number piece earlier)) event ≡ take_event (take_event before event) (Piece number piece later)
@@ -283,16 +283,16 @@ either_order stays before number earlier later piece event other alone none = by
         let own : session.number ≡ number = number_found number before.sessions session at in
         let ends : EndsNoUnit (Some session) piece = subst (λ (found : Option Session). EndsNoUnit found piece) at none in
         let first_one : take_event before (Piece number piece earlier) ≡ quiet session piece before =
-        ap (acted before (hears_piece earlier piece)) at ∙ heard stays earlier piece before session ends in
+        ap (acted before (hears_piece earlier piece)) at ∙ heard stays goes earlier piece before session ends in
         let last_one : take_event (take_event before event) (Piece number piece later) ≡ quiet session piece (take_event before event) =
-        ap (acted (take_event before event) (hears_piece later piece)) (still_there number before event other ∙ at) ∙ heard stays later piece (take_event before event) session ends in
+        ap (acted (take_event before event) (hears_piece later piece)) (still_there number before event other ∙ at) ∙ heard stays goes later piece (take_event before event) session ends in
         let count : at_once (becomes (longer session piece) before.sessions) ≡ at_once before.sessions =
         same_count (longer session piece) session before.sessions 0 refl
         (subst (λ (n : ℕ). session_at n before.sessions ≡ Some session) (sym own) at) (subst (λ (n : ℕ). IsAlone n before.sessions) (sym own) alone) in
         ap (λ (m : Machine). take_event m event) first_one ∙ quiet_event session piece before event (λ same. other (same ∙ own)) count ∙ sym last_one
 
-pub between : Stays → (world : World) (older : List PortEvent) (number earlier later : ℕ) (piece : List ℕ) (event : PortEvent) → link_of event ≢ number
+pub between : Stays → GoesOn → (world : World) (older : List PortEvent) (number earlier later : ℕ) (piece : List ℕ) (event : PortEvent) → link_of event ≢ number
     → IsAlone number (machine world older).sessions → EndsNoUnit (session_at number (machine world older).sessions) piece
     → machine world (event ∷ Piece number piece earlier ∷ older) ≡ machine world (Piece number piece later ∷ event ∷ older)
 unfolding machine
-between stays world older number earlier later piece event other alone none = either_order stays (machine world older) number earlier later piece event other alone none
+between stays goes world older number earlier later piece event other alone none = either_order stays goes (machine world older) number earlier later piece event other alone none

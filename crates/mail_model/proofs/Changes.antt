@@ -3,7 +3,8 @@ use Rattle.std.proofs.Common.{ℕ, ◌≡◌, ◌==◌, ◌+◌, ◌≤◌, ◌-
 use Rattle.std.proofs.lemmas.List.{take-append-le, drop-append-le, take_all, drop_at}
 use Rattle.std.proofs.lemmas.Bool.Decides.{nat_tests}
 use Rattle.port_model.specs.History.{PortEvent, Opened, Piece, Ended, Lost}
-use Rattle.imap_lexer.specs.Units.{Cut, first}
+use Rattle.session_units.specs.Awaited.{awaits_of}
+use Rattle.session_units.specs.Units.{Cut, first}
 use Rattle.mail_model.specs.declared.standing.Standing.TheVariants.{Closing}
 use Rattle.imap_steps.specs.Stepping.{World, Change, Shared, Stepped, applied, changed, after_step, stepped_to, left_by}
 use Rattle.imap_steps.specs.Step.{step, greeting}
@@ -131,23 +132,23 @@ adds-grown : (same : Bool) (old front new : List ℕ) → Grows front new → Gr
 adds-grown true old front new g = (g.0, ap (λ (xs : List ℕ). old ++ xs) g.1 ∙ sym (append_assoc old front g.0))
 adds-grown false old front new g = ([], sym (append-nil old))
 
-awaits-records : (world : World) (before : Machine) (taking : Taking) (bytes : List ℕ) (older : List Told) → Records world (takes before taking) older
-    → Records world (takes before (awaits_more taking bytes)) older
-awaits-records world before taking bytes older r =
-    more-records world (takes before taking) (takes before (awaits_more taking bytes)) older
-    (λ who. adds-grown (who == taking.session.number) (before.out who) taking.answers (awaits_more taking bytes).answers (more_answers _ taking.answers _)) refl refl r
+awaits-records : (world : World) (before : Machine) (taking : Taking) (byte : ℕ) (older : List Told) → Records world (takes before taking) older
+    → Records world (takes before (awaits_more taking byte)) older
+awaits-records world before taking byte older r =
+    more-records world (takes before taking) (takes before (awaits_more taking byte)) older
+    (λ who. adds-grown (who == taking.session.number) (before.out who) taking.answers (awaits_more taking byte).answers (more_answers _ taking.answers _)) refl refl r
 
 byte-records : (world : World) (before : Machine) (moment : ℕ) (taking : Taking) (byte : ℕ) (older : List Told) → Records world (takes before taking) older
     → Records world (takes before (take_byte moment taking byte)) (byte_tells moment taking byte older)
 unfolding take_byte
-byte-records world before moment taking byte older r = by (is_open taking.session.standing) (first taking.session.form (taking.session.rest ++ byte ∷ []))
+byte-records world before moment taking byte older r = by (is_open taking.session.standing) (first taking.session.awaited (byte ∷ []))
   where
     by : (is_served : Bool) (found : Option Cut)
         → Records world
-        (takes before (cond is_served (elim found as (λ (f : Option Cut). Taking) [ None ↦ awaits_more taking (taking.session.rest ++ byte ∷ []) | Some cut ↦ take_unit moment taking cut ]) taking))
+        (takes before (cond is_served (elim found as (λ (f : Option Cut). Taking) [ None ↦ awaits_more taking byte | Some cut ↦ take_unit moment taking cut ]) taking))
         (cond is_served (elim found as (λ (f : Option Cut). List Told) [ None ↦ older | Some cut ↦ unit_tells moment taking cut older ]) older)
-    by true None = awaits-records world before taking (taking.session.rest ++ byte ∷ []) older r
-    by true (Some cut) = unit-records world before taking (step taking.shared taking.session.number taking.session.form cut.shows cut.unit moment) older r
+    by true None = awaits-records world before taking byte older r
+    by true (Some cut) = unit-records world before taking (step taking.shared taking.session.number (awaits_of taking.session.awaited) cut.shows cut.unit moment) older r
     by false found = r
 
 piece-records : (world : World) (before : Machine) (moment : ℕ) (taking : Taking) (piece : List ℕ) (older : List Told) → Records world (takes before taking) older

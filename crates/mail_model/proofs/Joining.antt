@@ -1,12 +1,13 @@
 -- Pieces of one session are one, with what happens on other links between them.
 use Rattle.std.proofs.Common.{ℕ, ◌≡◌, ◌≢◌, ◌==◌, ◌+◌, Bool, true, false, List, [], ◌∷◌, ◌++◌, Option, Some, None, cond, refl, ap, sym, ◌∙◌, subst, arith, append_assoc, append-nil, length, length-append, map}
 use Rattle.port_model.specs.History.{PortEvent, Opened, Piece, Ended, Lost}
-use Rattle.imap_lexer.specs.Units.{Cut, is_prompted, shown, first}
+use Rattle.session_units.specs.Awaited.{awaits_of, is_prompting, with_more}
+use Rattle.session_units.specs.Units.{Cut, first}
 use Rattle.imap_steps.specs.Stepping.{World, Shared, Stepped}
 use Rattle.imap_steps.specs.Step.{step}
 use Rattle.mail_model.specs.Machine.{Machine, Made, Session, Taking, is_open, and_change, behind, adds, becomes, go_ahead, after_unit, awaits_more, take_unit, take_byte, take_piece, taking_of, leaves, takes, session_at, hears_piece, take_event, machine}
 use Rattle.mail_model.specs.Between.{link_of, IsAlone, EndsNoUnit, AllElsewhere}
-use Rattle.mail_model.proofs.Units.{Stays, pieces}
+use Rattle.mail_model.proofs.Units.{GoesOn, Stays, pieces}
 use Rattle.mail_model.proofs.Changes.{itself, shifted}
 use Rattle.mail_model.proofs.Between.{equal, differs, number_found, found_beside, found_before, number_of_piece, number_of_left, still_there, any_moment, either_order, same_machine, acted}
 
@@ -31,8 +32,8 @@ onto_unit old taking stepped =
     (ap (λ (from : ℕ). and_change stepped.change taking.session.number from (length stepped.answer) later) (length-append old.answers taking.answers)
     ∙ sym (shifted stepped.change taking.session.number shift (length taking.answers) (length stepped.answer) taking.changes old.changes))
 
-onto_more : (old taking : Taking) (bytes : List ℕ) → awaits_more (onto old taking) bytes ≡ onto old (awaits_more taking bytes)
-onto_more old taking bytes = same_taking _ _ refl refl (by (is_prompted (shown taking.session.form bytes))) refl
+onto_more : (old taking : Taking) (byte : ℕ) → awaits_more (onto old taking) byte ≡ onto old (awaits_more taking byte)
+onto_more old taking byte = same_taking _ _ refl refl (by (is_prompting (with_more taking.session.awaited (byte ∷ [])))) refl
   where
     by : (asks : Bool) → cond asks ((old.answers ++ taking.answers) ++ go_ahead) (old.answers ++ taking.answers) ≡ old.answers ++ cond asks (taking.answers ++ go_ahead) taking.answers
     by true = append_assoc old.answers taking.answers go_ahead
@@ -40,13 +41,13 @@ onto_more old taking bytes = same_taking _ _ refl refl (by (is_prompted (shown t
 
 onto_byte : (moment : ℕ) (old taking : Taking) (byte : ℕ) → take_byte moment (onto old taking) byte ≡ onto old (take_byte moment taking byte)
 unfolding take_byte
-onto_byte moment old taking byte = by (is_open taking.session.standing) (first taking.session.form (taking.session.rest ++ byte ∷ []))
+onto_byte moment old taking byte = by (is_open taking.session.standing) (first taking.session.awaited (byte ∷ []))
   where
     by : (served : Bool) (found : Option Cut)
-        → cond served (elim found as (λ (f : Option Cut). Taking) [ None ↦ awaits_more (onto old taking) (taking.session.rest ++ byte ∷ []) | Some cut ↦ take_unit moment (onto old taking) cut ]) (onto old taking)
-        ≡ onto old (cond served (elim found as (λ (f : Option Cut). Taking) [ None ↦ awaits_more taking (taking.session.rest ++ byte ∷ []) | Some cut ↦ take_unit moment taking cut ]) taking)
-    by true None = onto_more old taking (taking.session.rest ++ byte ∷ [])
-    by true (Some cut) = onto_unit old taking (step taking.shared taking.session.number taking.session.form cut.shows cut.unit moment)
+        → cond served (elim found as (λ (f : Option Cut). Taking) [ None ↦ awaits_more (onto old taking) byte | Some cut ↦ take_unit moment (onto old taking) cut ]) (onto old taking)
+        ≡ onto old (cond served (elim found as (λ (f : Option Cut). Taking) [ None ↦ awaits_more taking byte | Some cut ↦ take_unit moment taking cut ]) taking)
+    by true None = onto_more old taking byte
+    by true (Some cut) = onto_unit old taking (step taking.shared taking.session.number (awaits_of taking.session.awaited) cut.shows cut.unit moment)
     by false found = refl
 
 onto_piece : (moment : ℕ) (old taking : Taking) (piece : List ℕ) → take_piece moment (onto old taking) piece ≡ onto old (take_piece moment taking piece)
@@ -172,7 +173,7 @@ still_alone who before (Lost number) other alone = alone_acted who number before
 
 -- Pieces with other links' events between them
 
-module _ (stays : Stays) (world : World) (older : List PortEvent) (number earlier later : ℕ) (piece : List ℕ) where
+module _ (stays : Stays) (goes : GoesOn) (world : World) (older : List PortEvent) (number earlier later : ℕ) (piece : List ℕ) where
   alone_after : (others : List PortEvent) → AllElsewhere number others → IsAlone number (machine world older).sessions → IsAlone number (machine world (others ++ older)).sessions
   unfolding machine
   alone_after [] elsewhere alone = alone
@@ -186,10 +187,10 @@ module _ (stays : Stays) (world : World) (older : List PortEvent) (number earlie
   any_order : (others : List PortEvent) → AllElsewhere number others → IsAlone number (machine world older).sessions → EndsNoUnit (session_at number (machine world older).sessions) piece
       → machine world (others ++ Piece number piece earlier ∷ older) ≡ take_event (machine world (others ++ older)) (Piece number piece later)
   unfolding machine
-  any_order [] elsewhere alone none = any_moment stays (machine world older) number earlier later piece none
+  any_order [] elsewhere alone none = any_moment stays goes (machine world older) number earlier later piece none
   any_order (event ∷ others) elsewhere alone none =
       ap (λ (m : Machine). take_event m event) (any_order others elsewhere.1 alone none)
-      ∙ either_order stays (machine world (others ++ older)) number later later piece event elsewhere.0 (alone_after others elsewhere.1 alone)
+      ∙ either_order stays goes (machine world (others ++ older)) number later later piece event elsewhere.0 (alone_after others elsewhere.1 alone)
       (subst (λ (found : Option Session). EndsNoUnit found piece) (sym (there_after others elsewhere.1)) none)
 
   pub joined : (others : List PortEvent) (rest : List ℕ) → AllElsewhere number others → IsAlone number (machine world older).sessions

@@ -1,42 +1,50 @@
 -- A session's bytes, and the units that they are cut into.
-use Rattle.std.proofs.Common.{ℕ, ◌≡◌, ◌==◌, not, Bool, true, false, List, [], ◌∷◌, ◌++◌, Option, Some, None, refl, ap, sym, ◌∙◌, subst, cond, append_assoc, append-nil}
+use Rattle.std.proofs.Common.{ℕ, ◌≡◌, ◌==◌, not, Bool, true, false, List, [], ◌∷◌, ◌++◌, Option, Some, None, refl, ap, sym, ◌∙◌, subst, cond, append-nil}
 use Rattle.std.specs.List.{filter, list_any}
 use Rattle.std.proofs.lemmas.Option.{same_Some}
 use Rattle.port_model.specs.History.{PortEvent, Opened, Piece, Ended, Lost}
-use Rattle.imap_lexer.specs.declared.units.Form.{Form}
-use Rattle.imap_lexer.specs.Units.{Cut, first}
+use Rattle.session_units.specs.declared.forms.Awaits.{Awaits as Forms}
+use Rattle.session_units.specs.Awaited.{Awaited, Imap, Line, Text, begun, with_more}
+use Rattle.session_units.specs.Units.{Cut, first}
 use Rattle.imap_steps.specs.Stepping.{Shared, World, left_by, has_part}
 use Rattle.mail_model.specs.Machine.{Machine, Session, Taking, is_open, awaits_more, take_unit, take_byte, take_piece, taking_of, hears_piece, leaves, becomes, session_at, takes, take_event, machine}
 use Rattle.mail_model.specs.Pieces.{IsAwaiting, OpenAwait, TakesUnit, goes_on}
-
-first-nil : (form : Form) → first form [] ≡ None
-unfolding first
-first-nil form = refl
 
 pub take_byte-closed : (moment : ℕ) (taking : Taking) (byte : ℕ) → is_open taking.session.standing ≡ false → take_byte moment taking byte ≡ taking
 unfolding take_byte
 take_byte-closed moment taking byte h = rw h refl
 
 -- The state after a byte that ends no unit, and after one that does
-take_byte-more : (moment : ℕ) (taking : Taking) (byte : ℕ) → is_open taking.session.standing ≡ true → first taking.session.form (taking.session.rest ++ byte ∷ []) ≡ None
-    → take_byte moment taking byte ≡ awaits_more taking (taking.session.rest ++ byte ∷ [])
+take_byte-more : (moment : ℕ) (taking : Taking) (byte : ℕ) → is_open taking.session.standing ≡ true → first taking.session.awaited (byte ∷ []) ≡ None
+    → take_byte moment taking byte ≡ awaits_more taking byte
 unfolding take_byte
 take_byte-more moment taking byte h e = rw (h, e) refl
 
-take_byte-unit : (moment : ℕ) (taking : Taking) (byte : ℕ) (cut : Cut) → is_open taking.session.standing ≡ true → first taking.session.form (taking.session.rest ++ byte ∷ []) ≡ Some cut
+take_byte-unit : (moment : ℕ) (taking : Taking) (byte : ℕ) (cut : Cut) → is_open taking.session.standing ≡ true → first taking.session.awaited (byte ∷ []) ≡ Some cut
     → take_byte moment taking byte ≡ take_unit moment taking cut
 unfolding take_byte
 take_byte-unit moment taking byte cut h e = rw (h, e) refl
 
+-- no unit is there before the first byte
+abbrev pub Begun : Type 0
+Begun = (awaits : Forms) → first (begun awaits) [] ≡ None
+
 -- bytes that come later don't change the first unit
 abbrev pub Stays : Type 0
-Stays = (form : Form) (bytes later : List ℕ) (cut : Cut) → first form bytes ≡ Some cut
-    → first form (bytes ++ later) ≡ Some (record { unit = cut.unit; shows = cut.shows; rest = cut.rest ++ later })
+Stays = (awaited : Awaited) (bytes later : List ℕ) (cut : Cut) → first awaited bytes ≡ Some cut
+    → first awaited (bytes ++ later) ≡ Some (record { unit = cut.unit; shows = cut.shows; rest = cut.rest ++ later })
 
--- a unit that one byte more completes is all the bytes
+-- bytes that end no unit go on with what is awaited
+abbrev pub GoesOn : Type 0
+GoesOn = (awaited : Awaited) (bytes later : List ℕ) → first awaited bytes ≡ None → first awaited (bytes ++ later) ≡ first (with_more awaited bytes) later
+
+-- however they are cut
+abbrev pub Joined : Type 0
+Joined = (awaited : Awaited) (bytes later : List ℕ) → with_more awaited (bytes ++ later) ≡ with_more (with_more awaited bytes) later
+
+-- a unit that one byte more completes ends with it
 abbrev pub AtLast : Type 0
-AtLast = (form : Form) (bytes : List ℕ) (byte : ℕ) (cut : Cut) → first form bytes ≡ None
-    → first form (bytes ++ byte ∷ []) ≡ Some cut → (cut.unit ≡ bytes ++ byte ∷ []) × (cut.rest ≡ [])
+AtLast = (awaited : Awaited) (byte : ℕ) (cut : Cut) → first awaited [] ≡ None → first awaited (byte ∷ []) ≡ Some cut → cut.rest ≡ []
 
 -- two pieces one by one
 pub pieces : (moment : ℕ) (taking : Taking) (piece later : List ℕ) → take_piece moment (take_piece moment taking piece) later ≡ take_piece moment taking (piece ++ later)
@@ -44,89 +52,90 @@ pieces moment taking [] later = refl
 pieces moment taking (byte ∷ piece) later = pieces moment (take_byte moment taking byte) piece later
 
 -- bytes in front of which there is no unit have none themselves
-front-none : Stays → (form : Form) (bytes later : List ℕ) → first form (bytes ++ later) ≡ None → first form bytes ≡ None
-front-none stays form bytes later none = by (first form bytes) refl
+front-none : Stays → (awaited : Awaited) (bytes later : List ℕ) → first awaited (bytes ++ later) ≡ None → first awaited bytes ≡ None
+front-none stays awaited bytes later none = by (first awaited bytes) refl
   where
-    by : (found : Option Cut) → first form bytes ≡ found → first form bytes ≡ None
+    by : (found : Option Cut) → first awaited bytes ≡ found → first awaited bytes ≡ None
     by None e = e
-    by (Some cut) e = let bad = sym none ∙ stays form bytes later cut e in cc
+    by (Some cut) e = let bad = sym none ∙ stays awaited bytes later cut e in cc
 
-pub awaits : Stays → (moment : ℕ) (taking : Taking) (piece : List ℕ) → is_open taking.session.standing ≡ true → first taking.session.form (taking.session.rest ++ piece) ≡ None
+pub awaits : Stays → GoesOn → (moment : ℕ) (taking : Taking) (piece : List ℕ) → is_open taking.session.standing ≡ true → first taking.session.awaited piece ≡ None
     → take_piece moment taking piece ≡ goes_on taking piece
-awaits stays moment taking [] o none = refl
-awaits stays moment taking (byte ∷ piece) o none =
-    let next : first taking.session.form ((taking.session.rest ++ byte ∷ []) ++ piece) ≡ None = ap (first taking.session.form) (append_assoc taking.session.rest (byte ∷ []) piece) ∙ none in
-    ap (λ (t : Taking). take_piece moment t piece) (take_byte-more moment taking byte o (front-none stays taking.session.form (taking.session.rest ++ byte ∷ []) piece next))
-    ∙ awaits stays moment (awaits_more taking (taking.session.rest ++ byte ∷ [])) piece o next
+awaits stays goes moment taking [] o none = refl
+awaits stays goes moment taking (byte ∷ piece) o none =
+    let here : first taking.session.awaited (byte ∷ []) ≡ None = front-none stays taking.session.awaited (byte ∷ []) piece none in
+    ap (λ (t : Taking). take_piece moment t piece) (take_byte-more moment taking byte o here)
+    ∙ awaits stays goes moment (awaits_more taking byte) piece o (sym (goes taking.session.awaited (byte ∷ []) piece here) ∙ none)
 
-goes_on-rest : (taking : Taking) (piece : List ℕ) → (goes_on taking piece).session.rest ≡ taking.session.rest ++ piece
-goes_on-rest taking [] = sym (append-nil taking.session.rest)
-goes_on-rest taking (byte ∷ piece) = goes_on-rest (awaits_more taking (taking.session.rest ++ byte ∷ [])) piece ∙ append_assoc taking.session.rest (byte ∷ []) piece
+with_nothing : (awaited : Awaited) → with_more awaited [] ≡ awaited
+with_nothing (Imap form bytes) = ap (Imap form) (append-nil bytes)
+with_nothing (Line bytes) = ap Line (append-nil bytes)
+with_nothing (Text read) = refl
 
-pub none : Stays → (moment : ℕ) (taking : Taking) (piece : List ℕ) → IsAwaiting taking.session → first taking.session.form (taking.session.rest ++ piece) ≡ None
-    → (take_piece moment taking piece ≡ goes_on taking piece) × ((take_piece moment taking piece).session.rest ≡ taking.session.rest ++ piece)
-none stays moment taking piece h e =
-    let same = awaits stays moment taking piece h.opened e in (same, ap (λ (t : Taking). t.session.rest) same ∙ goes_on-rest taking piece)
+goes_on-awaited : Joined → (taking : Taking) (piece : List ℕ) → (goes_on taking piece).session.awaited ≡ with_more taking.session.awaited piece
+goes_on-awaited joined taking [] = sym (with_nothing taking.session.awaited)
+goes_on-awaited joined taking (byte ∷ piece) = goes_on-awaited joined (awaits_more taking byte) piece ∙ sym (joined taking.session.awaited (byte ∷ []) piece)
 
-pub moments : Stays → (earlier moment : ℕ) (taking : Taking) (piece later : List ℕ) → IsAwaiting taking.session → first taking.session.form (taking.session.rest ++ piece) ≡ None
+pub none : Stays → GoesOn → Joined → (moment : ℕ) (taking : Taking) (piece : List ℕ) → IsAwaiting taking.session → first taking.session.awaited piece ≡ None
+    → (take_piece moment taking piece ≡ goes_on taking piece) × ((take_piece moment taking piece).session.awaited ≡ with_more taking.session.awaited piece)
+none stays goes joined moment taking piece h e =
+    let same = awaits stays goes moment taking piece h.opened e in (same, ap (λ (t : Taking). t.session.awaited) same ∙ goes_on-awaited joined taking piece)
+
+pub moments : Stays → GoesOn → (earlier moment : ℕ) (taking : Taking) (piece later : List ℕ) → IsAwaiting taking.session → first taking.session.awaited piece ≡ None
     → take_piece moment (take_piece earlier taking piece) later ≡ take_piece moment taking (piece ++ later)
-moments stays earlier moment taking piece later h e =
-    ap (λ (t : Taking). take_piece moment t later) (awaits stays earlier taking piece h.opened e ∙ sym (awaits stays moment taking piece h.opened e)) ∙ pieces moment taking piece later
+moments stays goes earlier moment taking piece later h e =
+    ap (λ (t : Taking). take_piece moment t later) (awaits stays goes earlier taking piece h.opened e ∙ sym (awaits stays goes moment taking piece h.opened e)) ∙ pieces moment taking piece later
 
-pub takes_unit : Stays → AtLast → (moment : ℕ) (taking : Taking) (piece : List ℕ) (cut : Cut) → is_open taking.session.standing ≡ true → first taking.session.form taking.session.rest ≡ None
-    → first taking.session.form (taking.session.rest ++ piece) ≡ Some cut → TakesUnit moment taking piece cut
-takes_unit stays at_last moment taking [] cut o e h =
-    let bad = sym e ∙ ap (first taking.session.form) (sym (append-nil taking.session.rest)) ∙ h in absurd (cc)
-takes_unit stays at_last moment taking (byte ∷ piece) cut o e h =
-    by (first taking.session.form (taking.session.rest ++ byte ∷ [])) refl (takes_unit stays at_last moment (awaits_more taking (taking.session.rest ++ byte ∷ [])) piece cut o)
+pub takes_unit : Stays → GoesOn → AtLast → (moment : ℕ) (taking : Taking) (piece : List ℕ) (cut : Cut) → is_open taking.session.standing ≡ true → first taking.session.awaited [] ≡ None
+    → first taking.session.awaited piece ≡ Some cut → TakesUnit moment taking piece cut
+takes_unit stays goes at_last moment taking [] cut o e h = let bad = sym e ∙ h in absurd (cc)
+takes_unit stays goes at_last moment taking (byte ∷ piece) cut o e h =
+    by (first taking.session.awaited (byte ∷ [])) refl (takes_unit stays goes at_last moment (awaits_more taking byte) piece cut o)
   where
-    whole : first taking.session.form ((taking.session.rest ++ byte ∷ []) ++ piece) ≡ Some cut
-    whole = ap (first taking.session.form) (append_assoc taking.session.rest (byte ∷ []) piece) ∙ h
-
-    by : (found : Option Cut) → first taking.session.form (taking.session.rest ++ byte ∷ []) ≡ found
-        → (first taking.session.form (taking.session.rest ++ byte ∷ []) ≡ None → first taking.session.form ((taking.session.rest ++ byte ∷ []) ++ piece) ≡ Some cut
-        → TakesUnit moment (awaits_more taking (taking.session.rest ++ byte ∷ [])) piece cut)
+    by : (found : Option Cut) → first taking.session.awaited (byte ∷ []) ≡ found
+        → (first (with_more taking.session.awaited (byte ∷ [])) [] ≡ None → first (with_more taking.session.awaited (byte ∷ [])) piece ≡ Some cut
+        → TakesUnit moment (awaits_more taking byte) piece cut)
         → TakesUnit moment taking (byte ∷ piece) cut
     by None n rest =
-        let later = rest n whole in
+        let later = rest (sym (goes taking.session.awaited (byte ∷ []) [] n) ∙ n) (sym (goes taking.session.awaited (byte ∷ []) piece n) ∙ h) in
         record {
           front = byte ∷ later.front;
           byte = later.byte;
-          unit = later.unit ∙ append_assoc taking.session.rest (byte ∷ []) (later.front ++ later.byte ∷ []);
+          ends = ap (λ (bytes : List ℕ). byte ∷ bytes) later.ends;
           taken = ap (λ (t : Taking). take_piece moment t piece) (take_byte-more moment taking byte o n) ∙ later.taken;
         }
     by (Some found) n rest =
-        let parts = at_last taking.session.form taking.session.rest byte found e n in
+        let last : found.rest ≡ [] = at_last taking.session.awaited byte found e n in
         let longer : Cut = record { unit = found.unit; shows = found.shows; rest = found.rest ++ piece } in
-        let same : longer ≡ cut = same_Some longer cut (sym (stays taking.session.form (taking.session.rest ++ byte ∷ []) piece found n) ∙ whole) in
+        let same : longer ≡ cut = same_Some longer cut (sym (stays taking.session.awaited (byte ∷ []) piece found n) ∙ h) in
         record {
           front = [];
           byte = byte;
-          unit = ap (λ (c : Cut). c.unit) (sym same) ∙ parts.0;
+          ends = ap (λ (bytes : List ℕ). byte ∷ bytes) (ap (λ (bytes : List ℕ). bytes ++ piece) (sym last) ∙ ap (λ (c : Cut). c.rest) same);
           taken = ap (λ (t : Taking). take_piece moment t piece) (take_byte-unit moment taking byte found o n)
-              ∙ ap (λ (rest : List ℕ). take_piece moment (take_unit moment taking found) (rest ++ piece)) (sym parts.1)
+              ∙ ap (λ (rest : List ℕ). take_piece moment (take_unit moment taking found) (rest ++ piece)) (sym last)
               ∙ ap (λ (c : Cut). take_piece moment (take_unit moment taking c) c.rest) same;
         }
 
 -- Every open session awaits a unit.
 
 abbrev Awaits : Session → Type 0
-Awaits session = is_open session.standing ≡ true → first session.form session.rest ≡ None
+Awaits session = is_open session.standing ≡ true → first session.awaited [] ≡ None
 
-awaits_byte : (moment byte : ℕ) (taking : Taking) → Awaits taking.session → Awaits (take_byte moment taking byte).session
-awaits_byte moment byte taking h = by (is_open taking.session.standing) refl
+awaits_byte : Begun → GoesOn → (moment byte : ℕ) (taking : Taking) → Awaits taking.session → Awaits (take_byte moment taking byte).session
+awaits_byte begun-none goes moment byte taking h = by (is_open taking.session.standing) refl
   where
-    found : (cut : Option Cut) → first taking.session.form (taking.session.rest ++ byte ∷ []) ≡ cut → is_open taking.session.standing ≡ true → Awaits (take_byte moment taking byte).session
-    found None e o = rw (take_byte-more moment taking byte o e) (λ opened. e)
-    found (Some cut) e o = rw (take_byte-unit moment taking byte cut o e) (λ opened. first-nil (take_unit moment taking cut).session.form)
+    found : (cut : Option Cut) → first taking.session.awaited (byte ∷ []) ≡ cut → is_open taking.session.standing ≡ true → Awaits (take_byte moment taking byte).session
+    found None e o = rw (take_byte-more moment taking byte o e) (λ opened. sym (goes taking.session.awaited (byte ∷ []) [] e) ∙ e)
+    found (Some cut) e o = rw (take_byte-unit moment taking byte cut o e) (λ opened. begun-none _)
 
     by : (opened : Bool) → is_open taking.session.standing ≡ opened → Awaits (take_byte moment taking byte).session
-    by true o = found (first taking.session.form (taking.session.rest ++ byte ∷ [])) refl o
+    by true o = found (first taking.session.awaited (byte ∷ [])) refl o
     by false o = rw (take_byte-closed moment taking byte o) h
 
-awaits_piece : (moment : ℕ) (piece : List ℕ) (taking : Taking) → Awaits taking.session → Awaits (take_piece moment taking piece).session
-awaits_piece moment [] taking h = h
-awaits_piece moment (byte ∷ piece) taking h = awaits_piece moment piece (take_byte moment taking byte) (awaits_byte moment byte taking h)
+awaits_piece : Begun → GoesOn → (moment : ℕ) (piece : List ℕ) (taking : Taking) → Awaits taking.session → Awaits (take_piece moment taking piece).session
+awaits_piece begun-none goes moment [] taking h = h
+awaits_piece begun-none goes moment (byte ∷ piece) taking h = awaits_piece begun-none goes moment piece (take_byte moment taking byte) (awaits_byte begun-none goes moment byte taking h)
 
 awaits_left : (shared : Shared) (session : Session) → Awaits session → Awaits (leaves shared session).session
 awaits_left shared session h = by (is_open session.standing) refl
@@ -159,17 +168,17 @@ awaits_of : (m : Machine) (number : ℕ) (act : Shared → Session → Taking) �
 awaits_of m number act kept h None e = h
 awaits_of m number act kept h (Some session) e = awaits_becomes (act m.shared session).session m.sessions (kept session (awaits_found number m.sessions session e h)) h
 
-awaits_event : (m : Machine) (event : PortEvent) → OpenAwait m.sessions → OpenAwait (take_event m event).sessions
-awaits_event m (Opened number kind) h = awaits_more_sessions m.sessions _ (λ opened. first-nil _) h
-awaits_event m (Piece number piece moment) h =
-    awaits_of m number (hears_piece moment piece) (λ session a. awaits_piece moment piece (taking_of m.shared session) a) h (session_at number m.sessions) refl
-awaits_event m (Ended number) h = awaits_of m number leaves (λ session a. awaits_left m.shared session a) h (session_at number m.sessions) refl
-awaits_event m (Lost number) h = awaits_of m number leaves (λ session a. awaits_left m.shared session a) h (session_at number m.sessions) refl
+awaits_event : Begun → GoesOn → (m : Machine) (event : PortEvent) → OpenAwait m.sessions → OpenAwait (take_event m event).sessions
+awaits_event begun-none goes m (Opened number kind) h = awaits_more_sessions m.sessions _ (λ opened. begun-none _) h
+awaits_event begun-none goes m (Piece number piece moment) h =
+    awaits_of m number (hears_piece moment piece) (λ session a. awaits_piece begun-none goes moment piece (taking_of m.shared session) a) h (session_at number m.sessions) refl
+awaits_event begun-none goes m (Ended number) h = awaits_of m number leaves (λ session a. awaits_left m.shared session a) h (session_at number m.sessions) refl
+awaits_event begun-none goes m (Lost number) h = awaits_of m number leaves (λ session a. awaits_left m.shared session a) h (session_at number m.sessions) refl
 
-pub open_await : (world : World) (events : List PortEvent) → OpenAwait (machine world events).sessions
+pub open_await : Begun → GoesOn → (world : World) (events : List PortEvent) → OpenAwait (machine world events).sessions
 unfolding machine
-open_await world [] = tt
-open_await world (event ∷ older) = awaits_event (machine world older) event (open_await world older)
+open_await begun-none goes world [] = tt
+open_await begun-none goes world (event ∷ older) = awaits_event begun-none goes (machine world older) event (open_await begun-none goes world older)
 
 -- Who took leave has no part.
 

@@ -1,7 +1,7 @@
 -- What the law of events between pieces says.
-use Rattle.std.specs.Prelude.{ℕ, ◌≡◌, ◌≢◌, ◌==◌, true, false, List, [], ◌∷◌, ◌++◌, Option, Some, None}
+use Rattle.std.specs.Prelude.{ℕ, ◌≡◌, ◌≢◌, ◌==◌, true, false, List, [], ◌∷◌, Option, Some, None}
 use Rattle.port_model.specs.History.{PortEvent, Opened, Piece, Ended, Lost}
-use Rattle.imap_lexer.specs.Units.{first}
+use Rattle.session_units.specs.Units.{first}
 use Rattle.mail_model.specs.Machine.{Session, is_open, session_at}
 
 -- the link on which something happens
@@ -19,7 +19,7 @@ IsAlone number (session ∷ later) = elim (session.number == number) [ true ↦ 
 -- a piece ends no unit of a session, where there is one and it is served
 abbrev pub EndsNoUnit : Option Session → List ℕ → Type 0
 EndsNoUnit None piece = Unit {0}
-EndsNoUnit (Some session) piece = is_open session.standing ≡ true → first session.form (session.rest ++ piece) ≡ None
+EndsNoUnit (Some session) piece = is_open session.standing ≡ true → first session.awaited piece ≡ None
 
 -- what happens is on other links
 abbrev pub AllElsewhere : ℕ → List PortEvent → Type 0

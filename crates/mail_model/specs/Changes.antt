@@ -1,7 +1,8 @@
 -- What the laws of changes say: what a machine's changes make of a world, and which answers they are told by.
-use Rattle.std.specs.Prelude.{ℕ, ◌≡◌, ◌+◌, ◌≤◌, List, [], ◌∷◌, ◌++◌, Some, None, length, map, take, drop, if◌then◌else◌}
+use Rattle.std.specs.Prelude.{ℕ, ◌≡◌, ◌+◌, ◌≤◌, List, [], ◌∷◌, Some, None, length, map, take, drop, if◌then◌else◌}
 use Rattle.port_model.specs.History.{PortEvent, Opened, Piece, Ended, Lost}
-use Rattle.imap_lexer.specs.Units.{Cut, first}
+use Rattle.session_units.specs.Awaited.{awaits_of}
+use Rattle.session_units.specs.Units.{Cut, first}
 use Rattle.imap_steps.specs.Stepping.{World, Change, Stepped, applied}
 use Rattle.imap_steps.specs.Step.{step, greeting}
 use Rattle.mail_model.specs.Machine.{Machine, Made, Taking, is_open, take_byte, taking_of, session_at, at_once, machine}
@@ -27,13 +28,13 @@ and_told number stepped older = elim stepped.change [ None ↦ older | Some chan
 
 -- what is told after a unit
 abbrev pub unit_tells : ℕ → Taking → Cut → List Told → List Told
-unit_tells moment taking cut older = and_told taking.session.number (step taking.shared taking.session.number taking.session.form cut.shows cut.unit moment) older
+unit_tells moment taking cut older = and_told taking.session.number (step taking.shared taking.session.number (awaits_of taking.session.awaited) cut.shows cut.unit moment) older
 
 -- what is told after one more byte: where it completes a unit, that one's step tells
 abbrev pub byte_tells : ℕ → Taking → ℕ → List Told → List Told
 byte_tells moment taking byte older =
     if is_open taking.session.standing
-    then elim (first taking.session.form (taking.session.rest ++ byte ∷ [])) [ None ↦ older | Some cut ↦ unit_tells moment taking cut older ]
+    then elim (first taking.session.awaited (byte ∷ [])) [ None ↦ older | Some cut ↦ unit_tells moment taking cut older ]
     else older
 
 -- what is told after the bytes of a piece

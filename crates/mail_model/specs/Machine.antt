@@ -2,20 +2,18 @@
 use Rattle.std.specs.Prelude.{ℕ, ◌+◌, ◌<◌, ◌==◌, Bool, true, false, List, [], ◌∷◌, ◌++◌, Option, Some, None, codes, length, map, find, count_by, if◌then◌else◌}
 use Rattle.port_model.specs.declared.calls.PortCall.{PortCall}
 use Rattle.port_model.specs.History.{PortEvent, Opened, Piece, Ended, Lost, events, sent}
-use Rattle.imap_lexer.specs.declared.units.Form.{Form}
-use Rattle.imap_lexer.specs.Units.{Cut, first, is_prompted, shown}
+use Rattle.session_units.specs.Awaited.{Awaited, awaits_of, begun, is_prompting, with_more}
+use Rattle.session_units.specs.Units.{Cut, first}
 use Rattle.mail_model.specs.declared.standing.Standing.{Standing}
 use Rattle.mail_model.specs.declared.standing.Standing.TheVariants.{Open, Closing}
 use Rattle.imap_steps.specs.Stepping.{World, Change, Shared, Stepped, crlf, left_by, after_step}
 use Rattle.imap_steps.specs.Step.{step, greeting}
 
--- A session: its number, how its link stands, the form of the unit that it awaits, and the bytes that are no whole
--- unit yet.
+-- A session: its number, how its link stands, and the unit that it awaits, as far as it came.
 pub record Session : Type 0 where
   pub number : ℕ
   pub standing : Standing
-  pub form : Form
-  pub rest : List ℕ
+  pub awaited : Awaited
 
 -- A change that a step made: the session that it answered, and which of that session's answers its answer is, from so
 -- many bytes on so many.
@@ -59,35 +57,34 @@ abbrev pub after_unit : Taking → Stepped → Taking
 after_unit taking stepped =
     record {
       shared = after_step taking.shared taking.session.number stepped;
-      session = record { number = taking.session.number; standing = standing_after stepped.closes; form = stepped.next; rest = [] };
+      session = record { number = taking.session.number; standing = standing_after stepped.closes; awaited = begun stepped.next };
       answers = taking.answers ++ stepped.answer;
       changes = and_change stepped.change taking.session.number (length taking.answers) (length stepped.answer) taking.changes;
     }
 
 abbrev pub take_unit : ℕ → Taking → Cut → Taking
-take_unit moment taking cut = after_unit taking (step taking.shared taking.session.number taking.session.form cut.shows cut.unit moment)
+take_unit moment taking cut = after_unit taking (step taking.shared taking.session.number (awaits_of taking.session.awaited) cut.shows cut.unit moment)
 
 -- the prompt after which a peer sends the literal that it announced (RFC 3501 §7.5)
 abbrev pub go_ahead : List ℕ
 go_ahead = codes "+ go ahead" ++ crlf
 
--- what bytes that are no whole unit yet leave: a prompt is added where they end with an announcement
-abbrev pub awaits_more : Taking → List ℕ → Taking
-awaits_more taking bytes =
+-- what a byte leaves that ends no unit: a prompt is added where it ends an announcement
+abbrev pub awaits_more : Taking → ℕ → Taking
+awaits_more taking byte =
     record {
       shared = taking.shared;
-      session = record { number = taking.session.number; standing = taking.session.standing; form = taking.session.form; rest = bytes };
-      answers = if is_prompted (shown taking.session.form bytes) then taking.answers ++ go_ahead else taking.answers;
+      session = record { number = taking.session.number; standing = taking.session.standing; awaited = with_more taking.session.awaited (byte ∷ []) };
+      answers = if is_prompting (with_more taking.session.awaited (byte ∷ [])) then taking.answers ++ go_ahead else taking.answers;
       changes = taking.changes;
     }
 
--- What one more byte leaves: it is joined to the bytes that are no whole unit yet. Where they are a unit then, that is
--- one step. What comes to a session that is closing is dropped.
+-- What one more byte leaves: it goes on with the unit that is awaited. Where that is whole then, it is one step. What comes to
+-- a session that is closing is dropped.
 unfoldable pub take_byte : ℕ → Taking → ℕ → Taking
 take_byte moment taking byte =
-    let bytes = taking.session.rest ++ byte ∷ [] in
     if is_open taking.session.standing
-    then elim (first taking.session.form bytes) [ None ↦ awaits_more taking bytes | Some cut ↦ take_unit moment taking cut ]
+    then elim (first taking.session.awaited (byte ∷ [])) [ None ↦ awaits_more taking byte | Some cut ↦ take_unit moment taking cut ]
     else taking
 
 -- the bytes of a piece are taken one after another
@@ -138,7 +135,7 @@ hears_piece moment piece shared session = take_piece moment (taking_of shared se
 abbrev pub leaves : Shared → Session → Taking
 leaves shared session =
     if is_open session.standing
-    then record { shared = left_by shared session.number; session = record { number = session.number; standing = Closing; form = session.form; rest = session.rest }; answers = []; changes = [] }
+    then record { shared = left_by shared session.number; session = record { number = session.number; standing = Closing; awaited = session.awaited }; answers = []; changes = [] }
     else taking_of shared session
 
 -- the machine after the session of a number, where there is one, did something
@@ -151,7 +148,7 @@ abbrev pub opens : Machine → ℕ → Stepped → Machine
 opens machine number greeted =
     record {
       shared = after_step machine.shared number greeted;
-      sessions = machine.sessions ++ record { number = number; standing = standing_after greeted.closes; form = greeted.next; rest = [] } ∷ [];
+      sessions = machine.sessions ++ record { number = number; standing = standing_after greeted.closes; awaited = begun greeted.next } ∷ [];
       out = adds number greeted.answer machine.out;
       changes = and_change greeted.change number (length (machine.out number)) (length greeted.answer) machine.changes;
       last = number;

@@ -2,13 +2,14 @@
 
 ghost use Rattle.std.specs.Prelude.{ℕ, ◌≡◌, ◌≢◌, ◌∷◌, ◌++◌, List, None, Some, true, false};
 ghost use Rattle.port_model.specs.History.{PortEvent, Piece};
-ghost use Rattle.imap_lexer.specs.Units.{Cut, first};
+ghost use Rattle.session_units.specs.Awaited.{with_more};
+ghost use Rattle.session_units.specs.Units.{Cut, first};
 ghost use Rattle.imap_steps.specs.Stepping.{Shared, Stepped, World, has_part};
 ghost use Rattle.mail_model.specs.Machine.{Machine, Session, Taking, after_unit, is_open, leaves, machine, opens, session_at, take_piece};
 ghost use Rattle.mail_model.specs.Between.{AllElsewhere, EndsNoUnit, IsAlone, link_of};
 ghost use Rattle.mail_model.specs.Pieces.{IsAwaiting, OpenAwait, TakesUnit, goes_on};
 
-use imap_lexer::units_end_where_they_end;
+use session_units::units_go_on_and_end;
 
 /// Laws of sessions: it matters neither how what a peer sends is cut into pieces, nor when bytes come that end no unit.
 pub fn units_whatever_the_pieces()
@@ -16,24 +17,26 @@ pub fn units_whatever_the_pieces()
     ensures pieces { (moment : ℕ) (taking : Taking) (piece later : List ℕ) → take_piece moment (take_piece moment taking piece) later ≡ take_piece moment taking (piece ++ later) }
 
     // A piece that ends no unit counts as if it had come with the next one, at that one's moment.
-    ensures moments { (earlier moment : ℕ) (taking : Taking) (piece later : List ℕ) → IsAwaiting taking.session → first taking.session.form (taking.session.rest ++ piece) ≡ None
+    ensures moments { (earlier moment : ℕ) (taking : Taking) (piece later : List ℕ) → IsAwaiting taking.session → first taking.session.awaited piece ≡ None
         → take_piece moment (take_piece earlier taking piece) later ≡ take_piece moment taking (piece ++ later) }
 
-    // Such a piece does nothing but add the prompts that it asks for, and is joined to the rest.
-    ensures none { (moment : ℕ) (taking : Taking) (piece : List ℕ) → IsAwaiting taking.session → first taking.session.form (taking.session.rest ++ piece) ≡ None
-        → (take_piece moment taking piece ≡ goes_on taking piece) × ((take_piece moment taking piece).session.rest ≡ taking.session.rest ++ piece) }
+    // Such a piece does nothing but add the prompts that it asks for, and goes on with what is awaited.
+    ensures none { (moment : ℕ) (taking : Taking) (piece : List ℕ) → IsAwaiting taking.session → first taking.session.awaited piece ≡ None
+        → (take_piece moment taking piece ≡ goes_on taking piece) × ((take_piece moment taking piece).session.awaited ≡ with_more taking.session.awaited piece) }
 
-    // Where the rest and a piece have a first unit, that is one step, at its last byte.
-    ensures unit { (moment : ℕ) (taking : Taking) (piece : List ℕ) (cut : Cut) → IsAwaiting taking.session → first taking.session.form (taking.session.rest ++ piece) ≡ Some cut
+    // Where a piece ends the unit that is awaited, that is one step, at its last byte.
+    ensures unit { (moment : ℕ) (taking : Taking) (piece : List ℕ) (cut : Cut) → IsAwaiting taking.session → first taking.session.awaited piece ≡ Some cut
         → TakesUnit moment taking piece cut }
 {
-    units_end_where_they_end();
+    units_go_on_and_end();
 }
 
-/// A law of the machine: every session that is open awaits a unit, so none stands whole in its rest.
+/// A law of the machine: every session that is open awaits a unit that isn't whole.
 pub fn open_sessions_await_a_unit()
     ensures { (world : World) (events : List PortEvent) → OpenAwait (machine world events).sessions }
-{}
+{
+    units_go_on_and_end();
+}
 
 /// Laws of closing: a session that a step or the end of its link closes has no part any more in what sessions share,
 /// whatever the step.
@@ -67,5 +70,5 @@ pub fn cuts_whatever_happens_between()
         → IsAlone number (machine world older).sessions → EndsNoUnit (session_at number (machine world older).sessions) piece
         → machine world (Piece number rest later ∷ (others ++ Piece number piece earlier ∷ older)) ≡ machine world (Piece number (piece ++ rest) later ∷ (others ++ older)) }
 {
-    units_end_where_they_end();
+    units_go_on_and_end();
 }

@@ -6,9 +6,10 @@ use Rattle.port_model.specs.declared.calls.PortCall.{PortCall}
 use Rattle.port_model.specs.declared.calls.PortCall.TheVariants.{Accept}
 use Rattle.port_model.specs.History.{PortEvent, Opened, events}
 use Rattle.port_model.specs.Streams.{moment}
-use Rattle.imap_lexer.specs.declared.units.Shown.{Shown}
-use Rattle.imap_lexer.specs.Units.{Cut, first as first_unit}
-use Rattle.imap_lexer.specs.Lexer.{Awaited}
+use Rattle.session_units.specs.declared.forms.Awaits.{Awaits}
+use Rattle.session_units.specs.declared.forms.Shown.{Shown}
+use Rattle.session_units.specs.Units.{Cut, first as first_unit, unit_of}
+use Rattle.session_units.specs.Awaited.{Awaited, awaits_of, with_more}
 use Rattle.imap_steps.specs.Stepping.{World, Change, Shared, Stepped, applied, changed, after_step}
 use Rattle.imap_steps.specs.Step.{step, greeting}
 use Rattle.mail_model.specs.Machine.{Machine, Made, Session, Taking, is_open, and_change, behind, awaits_more, leaves, take_unit, take_byte, take_piece, taking_of, at_once, takes, machine, after}
@@ -20,7 +21,7 @@ use Rattle.mail_rounds.specs.Held.{Held, session_of, taking_in}
 use Rattle.mail_rounds.specs.Heard.{IsOfLink, IsTaking, HearingCrashes, and_event, acts}
 use Rattle.mail_rounds.specs.Serves.{Serves}
 use Rattle.mail_rounds.proofs.Kept.{at_once-kept, at_once-links, split-at}
-use Rattle.mail_rounds.proofs.Taking.{taking-is, take_byte-unit}
+use Rattle.mail_rounds.proofs.Taking.{taking-is, take_byte-unit, same_form}
 use Rattle.mail_rounds.proofs.Keeping.{held-at, after-event, machine-event}
 
 -- Worlds and changes.
@@ -130,14 +131,14 @@ TakingGrown before later = Grown before.shared.world before.changes later.shared
 
 pub byte-grown : Worlds → (moment : ℕ) (taking : Taking) (byte : ℕ) → TakingGrown taking (take_byte moment taking byte)
 unfolding take_byte
-byte-grown law moment taking byte = by (is_open taking.session.standing) (first_unit taking.session.form (taking.session.rest ++ byte ∷ []))
+byte-grown law moment taking byte = by (is_open taking.session.standing) (first_unit taking.session.awaited (byte ∷ []))
   where
     by : (is_served : Bool) (found : Option Cut)
         → TakingGrown taking
-        (cond is_served (elim found as (λ (f : Option Cut). Taking) [ None ↦ awaits_more taking (taking.session.rest ++ byte ∷ []) | Some cut ↦ take_unit moment taking cut ]) taking)
+        (cond is_served (elim found as (λ (f : Option Cut). Taking) [ None ↦ awaits_more taking byte | Some cut ↦ take_unit moment taking cut ]) taking)
     by true None = record { made = []; changes_are = refl; world_is = refl }
     by true (Some cut) =
-        let stepped = step taking.shared taking.session.number taking.session.form cut.shows cut.unit moment in
+        let stepped = step taking.shared taking.session.number (awaits_of taking.session.awaited) cut.shows cut.unit moment in
         step-grown taking.shared.world (after_step taking.shared taking.session.number stepped).world stepped.change taking.session.number (length taking.answers) (length stepped.answer) taking.changes
         (law taking.shared taking.session.number stepped)
     by false found = record { made = []; changes_are = refl; world_is = refl }
@@ -156,21 +157,18 @@ byte_idle seen core law moment taking byte =
 
 -- a byte that ends a unit
 pub byte_unit : {C : Type 0} (seen : CoreSeen C) (link : Link) (core core' : C) (moment byte : ℕ) (taking : Taking) (fed : Awaited) → Worlds → IsTaking seen core link taking → true ≡ is_open link.standing
-    → fed ≡ record { form = link.lexer.form; bytes = link.lexer.bytes ++ byte ∷ [] }
-    → (shows : Shown) → first_unit fed.form fed.bytes ≡ Some (record { unit = fed.bytes; shows = shows; rest = [] })
-    → MayLeave seen core core' taking.shared.world (step taking.shared link.number fed.form shows fed.bytes moment).change
+    → fed ≡ with_more link.reader (byte ∷ [])
+    → (shows : Shown) → first_unit link.reader (byte ∷ []) ≡ Some (record { unit = unit_of fed; shows = shows; rest = [] })
+    → MayLeave seen core core' taking.shared.world (step taking.shared link.number (awaits_of fed) shows (unit_of fed) moment).change
     → TakingCrashes seen core core' taking (take_byte moment taking byte)
 byte_unit seen link core core' moment byte taking fed law held h l shows e leaves =
-    let bytes = link.lexer.bytes ++ byte ∷ [] in
-    let found : first_unit link.lexer.form bytes ≡ Some (record { unit = bytes; shows = shows; rest = [] }) =
-    subst (λ (v : Awaited). first_unit v.form v.bytes ≡ Some (record { unit = v.bytes; shows = shows; rest = [] })) l e in
-    let stepped : Stepped = step taking.shared link.number link.lexer.form shows bytes moment in
+    let stepped : Stepped = step taking.shared link.number (awaits_of link.reader) shows (unit_of fed) moment in
     let here : Taking = taking_in taking.shared link taking.changes in
     subst (λ (t : Taking). TakingCrashes seen core core' t (take_byte moment t byte)) (taking-is seen core link taking held)
-    (subst (TakingCrashes seen core core' here) (sym (take_byte-unit moment here byte (record { unit = bytes; shows = shows; rest = [] }) (sym h) found))
+    (subst (TakingCrashes seen core core' here) (sym (take_byte-unit moment here byte (record { unit = unit_of fed; shows = shows; rest = [] }) (sym h) e))
     (step-crashes seen core core' taking.shared.world (after_step taking.shared link.number stepped).world stepped.change link.number (length link.queue.items) (length stepped.answer) taking.changes
     (law taking.shared link.number stepped)
-    (subst (λ (v : Awaited). MayLeave seen core core' taking.shared.world (step taking.shared link.number v.form shows v.bytes moment).change) l leaves)))
+    (subst (λ (a : Awaits). MayLeave seen core core' taking.shared.world (step taking.shared link.number a shows (unit_of fed) moment).change) (ap awaits_of l ∙ same_form link.reader (byte ∷ [])) leaves)))
 
 pub take-append : (moment : ℕ) (taking : Taking) (piece later : List ℕ) → take_piece moment taking (piece ++ later) ≡ take_piece moment (take_piece moment taking piece) later
 take-append moment taking [] later = refl

@@ -7,7 +7,7 @@ use Rattle.mail_rounds.specs.CoreSeen.{CoreSeen}
 use Rattle.mail_rounds.specs.Crashes.{TakingCrashes}
 use Rattle.mail_rounds.specs.Held.{session_of}
 use Rattle.mail_rounds.specs.Heard.{IsTaking, in_session}
-use Rattle.mail_rounds.proofs.Taking.{literal_held}
+use Rattle.mail_rounds.proofs.Taking.{inside_held}
 use Rattle.mail_rounds.proofs.Crashes.{Worlds, take-append, piece_then, piece_rest}
 
 -- The core and the link are where the bytes in front of the rest bring them.
@@ -30,18 +30,18 @@ whole_slice : (count : ℕ) (rest : List ℕ) → take (length rest - count) (dr
 whole_slice count rest = let left : length (drop count rest) ≡ length rest - count = length-drop count rest in take_all (length rest - count) (drop count rest) (omega arith)
 
 -- bytes of a literal were taken
-pub halfway_literal : {C : Type 0} (seen : CoreSeen C) (core : C) (link : Link) (core' : C) (link' link'' : Link) (moment : ℕ) (piece rest : List ℕ) (count : ℕ) → Halfway seen core link core' link' moment piece rest
+pub halfway_inside : {C : Type 0} (seen : CoreSeen C) (core : C) (link : Link) (core' : C) (link' link'' : Link) (moment : ℕ) (piece rest : List ℕ) (count : ℕ) → Halfway seen core link core' link' moment piece rest
     → link''.queue.items ≡ link'.queue.items
     → ((moment : ℕ) (taking : Taking) → session_of link' ≡ taking.session → take_piece moment taking (take count rest) ≡ in_session taking (session_of link''))
     → Halfway seen core link core' link'' moment piece (take (length rest - count) (drop count rest))
-halfway_literal seen core link core' link' link'' moment piece rest count half q literal = record {
+halfway_inside seen core link core' link' link'' moment piece rest count half q literal = record {
   front = half.front ++ take count rest;
   parts = half.parts ∙ ap (λ (xs : List ℕ). half.front ++ xs) (sym (take-append-drop count rest)) ∙ sym (append_assoc half.front (take count rest) (drop count rest)) ∙ ap (λ (xs : List ℕ). (half.front ++ take count rest) ++ xs) (sym (whole_slice count rest));
   taken = λ taking held.
       let here = take_piece moment taking half.front in
       let held' = half.taken taking held in
       subst (IsTaking seen core' link'') (sym (take-append moment taking half.front (take count rest)))
-      (literal_held seen core' link' link'' moment here (take count rest) held' q (literal moment here held'.session));
+      (inside_held seen core' link' link'' moment here (take count rest) held' q (literal moment here held'.session));
   crash = λ taking held.
       let here = take_piece moment taking half.front in
       piece_then seen core core' core' moment taking half.front (take count rest) (half.crash taking held)

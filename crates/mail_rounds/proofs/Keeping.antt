@@ -9,9 +9,8 @@ use Rattle.port_model.specs.declared.calls.Kind.{Kind}
 use Rattle.port_model.specs.declared.calls.PortCall.{PortCall}
 use Rattle.port_model.specs.declared.calls.PortCall.TheVariants.{Accept, Close}
 use Rattle.port_model.specs.History.{PortEvent, Opened, Piece, Ended, Lost, events, sent, is_closed}
-use Rattle.imap_lexer.specs.declared.units.Form.{Form}
-use Rattle.imap_lexer.specs.Units.{first}
-use Rattle.imap_lexer.specs.Lexer.{Awaited}
+use Rattle.session_units.specs.declared.forms.Awaits.{Awaits}
+use Rattle.session_units.specs.Awaited.{Awaited, begun}
 use Rattle.imap_steps.specs.Stepping.{World, Shared, Stepped, after_step, stepped_to}
 use Rattle.imap_steps.specs.Step.{greeting}
 use Rattle.mail_model.specs.Machine.{Machine, Session, hears_piece, leaves, adds, Taking, of_session, is_open, session_at, becomes, at_once, takes, opens, take_event, machine, after, standing_after}
@@ -455,11 +454,11 @@ opening-at seen first history core core' links link last number kind greeted don
           (λ ne. serves.open_linked n s (sym (ap (session_at n) all ∙ at-more-other n m.sessions (session_of link) ne) ∙ at) opened);
     }
 
-greeted-session : (link : Link) (number : ℕ) (closes : Bool) (form : Form) (greeted : Stepped) → link.number ≡ number → link.standing ≡ standing_after closes
-    → link.lexer ≡ record { form = form; bytes = [] } → closes ≡ greeted.closes → form ≡ greeted.next
-    → session_of link ≡ record { number = number; standing = standing_after greeted.closes; form = greeted.next; rest = [] }
-greeted-session link number closes form greeted n s l c f =
-    λ i. record { number = n i; standing = (s ∙ ap standing_after c) i; form = (ap (λ (a : Awaited). a.form) l ∙ f) i; rest = ap (λ (a : Awaited). a.bytes) l i }
+greeted-session : (link : Link) (number : ℕ) (closes : Bool) (next : Awaits) (greeted : Stepped) → link.number ≡ number → link.standing ≡ standing_after closes
+    → link.reader ≡ begun next → closes ≡ greeted.closes → next ≡ greeted.next
+    → session_of link ≡ record { number = number; standing = standing_after greeted.closes; awaited = begun greeted.next }
+greeted-session link number closes next greeted n s l c f =
+    λ i. record { number = n i; standing = (s ∙ ap standing_after c) i; awaited = (l ∙ ap begun f) i }
 
 pub keeps_opening : {C : Type 0} (seen : CoreSeen C) (first : World) (history : List PortCall) (held later : Held C) (number : ℕ) (kind : Kind)
     → Opens seen held later number kind → number ≡ held.last + 1
@@ -475,22 +474,22 @@ keeps_opening seen first history held later number kind opens follows serves =
     (machine-event first (Opened number kind) (events history)) follows serves))
 
 -- what a greeting leaves, as the server has it
-pub opening-is : {C : Type 0} (seen : CoreSeen C) (core mid core' : C) (links links' : List Link) (link : Link) (last number : ℕ) (kind : Kind) (others : ℕ) (none : List ℕ) (closes : Bool) (form : Form)
+pub opening-is : {C : Type 0} (seen : CoreSeen C) (core mid core' : C) (links links' : List Link) (link : Link) (last number : ℕ) (kind : Kind) (others : ℕ) (none : List ℕ) (closes : Bool) (next : Awaits)
     → links' ≡ links ++ link ∷ [] → others ≡ count_by (λ link. is_open link.standing) links → none ≡ []
-    → link.number ≡ number → link.standing ≡ standing_after closes → link.lexer ≡ record { form = form; bytes = [] }
-    → ((shared : Shared) → seen.stands core shared → IsStep seen mid none link.queue.items closes form shared (greeting shared number kind others))
+    → link.number ≡ number → link.standing ≡ standing_after closes → link.reader ≡ begun next
+    → ((shared : Shared) → seen.stands core shared → IsStep seen mid none link.queue.items closes next shared (greeting shared number kind others))
     → ((shared : Shared) (stepped : Stepped) → closes ≡ stepped.closes → seen.stands mid (stepped_to shared stepped) → seen.stands core' (after_step shared number stepped))
     → Opens seen (holding core links last) (holding core' links' number) number kind
-opening-is seen core mid core' links links' link last number kind others none closes form are count nothing numbered stands awaits done settled = record {
+opening-is seen core mid core' links links' link last number kind others none closes next are count nothing numbered stands awaits done settled = record {
   link = link;
   links = are;
   last = refl;
   greeted = λ shared is_shared.
       subst (λ (n : ℕ). IsGreeted seen core' link shared number (greeting shared number kind n)) (count ∙ sym (at_once-links links))
-      (let step : IsStep seen mid none link.queue.items closes form shared (greeting shared number kind others) = done shared is_shared in
+      (let step : IsStep seen mid none link.queue.items closes next shared (greeting shared number kind others) = done shared is_shared in
       record {
         stands = settled shared (greeting shared number kind others) step.closing step.stands;
-        session = greeted-session link number closes form (greeting shared number kind others) numbered stands awaits step.closing step.form;
+        session = greeted-session link number closes next (greeting shared number kind others) numbered stands awaits step.closing step.awaits;
         answer = step.answer ∙ ap (λ (x : List ℕ). x ++ (greeting shared number kind others).answer) nothing;
       });
 }

@@ -2,7 +2,7 @@
 use Rattle.std.specs.Prelude.{ℕ, ◌≡◌, ◌≢◌, true, List, [], ◌∷◌, ◌++◌, Option, Some, None}
 use Rattle.port_model.specs.declared.calls.PortCall.{PortCall}
 use Rattle.port_model.specs.History.{PortEvent, Opened, Piece, Ended, Lost, events, sent, is_closed}
-use Rattle.imap_lexer.specs.Lexer.{Awaited}
+use Rattle.session_units.specs.Awaited.{Awaited, begun}
 use Rattle.mail_model.specs.declared.standing.Standing.{Standing}
 use Rattle.imap_steps.specs.Stepping.{Shared, Stepped, after_step}
 use Rattle.mail_model.specs.Machine.{Session, Taking, is_open, standing_after, taking_of, hears_piece, leaves}
@@ -44,10 +44,10 @@ pub record IsTaking {C : Type 0} (seen : CoreSeen C) (core : C) (link : Link) (t
   pub answers : link.queue.items ≡ taking.answers
 
 -- A link's parts after a step of its session: how it stands, what it awaits, and its queue with the answer added.
-pub record AfterStep {C : Type 0} (seen : CoreSeen C) (core : C) (standing : Standing) (lexer : Awaited) (before later : List ℕ) (shared : Shared) (number : ℕ) (stepped : Stepped) : Type 0 where
+pub record AfterStep {C : Type 0} (seen : CoreSeen C) (core : C) (standing : Standing) (reader : Awaited) (before later : List ℕ) (shared : Shared) (number : ℕ) (stepped : Stepped) : Type 0 where
   pub stands : seen.stands core (after_step shared number stepped)
   pub standing_is : standing ≡ standing_after stepped.closes
-  pub awaits : lexer ≡ record { form = stepped.next; bytes = [] }
+  pub awaits : reader ≡ begun stepped.next
   pub answer : later ≡ before ++ stepped.answer
 
 -- A link was asked what came by it, or it was not its turn. Nothing was sent and nothing was closed.

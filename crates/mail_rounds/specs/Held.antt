@@ -19,7 +19,7 @@ held server = record { core = server.core; links = server.links.items; last = se
 
 -- the session of a link
 abbrev pub session_of : Link → Session
-session_of link = record { number = link.number; standing = link.standing; form = link.lexer.form; rest = link.lexer.bytes }
+session_of link = record { number = link.number; standing = link.standing; awaited = link.reader }
 
 -- what is due to the session of a link
 abbrev pub due_of : Link → Due

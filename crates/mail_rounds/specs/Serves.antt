@@ -3,6 +3,7 @@ use Rattle.std.specs.Prelude.{ℕ, ◌≡◌, ◌<◌, Bool, true, false, List, 
 use Rattle.port_model.specs.declared.calls.Kind.{Kind}
 use Rattle.port_model.specs.declared.calls.PortCall.{PortCall}
 use Rattle.port_model.specs.History.{events, sent, is_closed}
+use Rattle.session_units.specs.Awaited.{begun}
 use Rattle.imap_steps.specs.Stepping.{World, Shared, Stepped, after_step}
 use Rattle.imap_steps.specs.Step.{greeting}
 use Rattle.mail_model.specs.Machine.{Session, is_open, session_at, after, at_once, standing_after}
@@ -56,7 +57,7 @@ Begins seen Calls old new before later = (first : World) → Serves seen first b
 -- what a greeting leaves of the core and the new link
 pub record IsGreeted {C : Type 0} (seen : CoreSeen C) (core : C) (link : Link) (shared : Shared) (number : ℕ) (greeted : Stepped) : Type 0 where
   pub stands : seen.stands core (after_step shared number greeted)
-  pub session : session_of link ≡ record { number = number; standing = standing_after greeted.closes; form = greeted.next; rest = [] }
+  pub session : session_of link ≡ record { number = number; standing = standing_after greeted.closes; awaited = begun greeted.next }
   pub answer : link.queue.items ≡ greeted.answer
 
 -- A link of a new session stands behind the others: what it was greeted with is in its queue.

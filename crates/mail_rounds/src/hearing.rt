@@ -1,9 +1,10 @@
 //! What comes by one link is taken.
 
-ghost use Rattle.std.specs.Prelude.{ℕ, ◌≡◌, ◌≤◌, ◌++◌, List, OnOk, OnErr, IfOk, IsErrOf, None, length, take, if◌then◌else◌};
+ghost use Rattle.std.specs.Prelude.{ℕ, ◌≡◌, ◌≤◌, ◌++◌, List, OnOk, OnErr, IfOk, IsErrOf, None, [], length, take, if◌then◌else◌};
 ghost use Rattle.port_model.specs.Ports.{NeverFall};
 ghost use Rattle.port_model.specs.Streams.{moment};
-ghost use Rattle.imap_lexer.specs.Units.{first, is_prompted};
+ghost use Rattle.session_units.specs.Awaited.{awaits_of};
+ghost use Rattle.session_units.specs.Units.{first, is_prompted, unit_of};
 ghost use Rattle.imap_steps.specs.Stepping.{World, Shared};
 ghost use Rattle.imap_steps.specs.Step.{step};
 ghost use Rattle.mail_model.specs.Machine.{Taking, go_ahead, take_byte, take_piece};
@@ -16,9 +17,9 @@ ghost use Rattle.mail_rounds.specs.Heard.{Hearing, Hears, IsTaking, AfterStep, i
 use crate::ending::{end_session, settle};
 use crate::link::Link;
 use crate::mail_core::{Core, CoreFault};
-use imap_lexer::{Fed, Lexer, Shown};
 use mail_model::{Standing, steps_record_their_changes};
 use port_model::{PortRead, Ports};
+use session_units::{Awaits, Fed, Reader, Shown, units_go_on_and_end};
 use std::alloc::AllocError;
 
 /// The last second of the year 9999, in seconds since 1970. A later reading of a clock is used as this one.
@@ -29,30 +30,30 @@ fn finish_unit<C: Core>(
     core: &mut C,
     number: u32,
     standing: &mut Standing,
-    lexer: &mut Lexer,
+    reader: &mut Reader,
     queue: &mut Vec<u8>,
     shown: Shown,
     moment: u64,
 ) -> Result<(), CoreFault>
     requires { C.seen.ready core.old }
     ensures taken { OnOk result ((shared : Shared) → C.seen.stands core.old shared
-        → AfterStep C.seen core.new standing.new lexer.new queue.old.items queue.new.items shared number (step shared number lexer.old.form shown lexer.old.bytes moment)) }
-    ensures none { first lexer.new.form lexer.new.bytes ≡ None }
+        → AfterStep C.seen core.new standing.new reader.new queue.old.items queue.new.items shared number (step shared number (awaits_of reader.old) shown (unit_of reader.old) moment)) }
+    ensures none { first reader.new [] ≡ None }
     ensures ready { OnOk result (C.seen.ready core.new) }
     ensures crash { (shared : Shared) → C.seen.stands core.old shared
-        → MayLeave C.seen core.old core.new shared.world (step shared number lexer.old.form shown lexer.old.bytes moment).change }
+        → MayLeave C.seen core.old core.new shared.world (step shared number (awaits_of reader.old) shown (unit_of reader.old) moment).change }
     ensures failed { IsErrOf result CoreFault.Failed → SomeRose (C.seen.faults core.old) (C.seen.faults core.new) }
     ensures stored { (IsErrOf result CoreFault.Failed → ⊥) → C.seen.faults core.new ≡ C.seen.faults core.old }
 {
-    let plain = lexer.is_plain();
-    match core.execute(number, plain, shown, lexer.unit(), moment, queue) {
+    let awaits = reader.awaits();
+    match core.execute(number, awaits, shown, reader.unit(), moment, queue) {
         Ok(outcome) => {
-            lexer.next(outcome.plain);
+            reader.next(outcome.awaits);
             *standing = settle(core, number, outcome.closes);
             Ok(())
         }
         Err(fault) => {
-            lexer.next(false);
+            reader.next(Awaits::Command);
             Err(fault)
         }
     }
@@ -83,11 +84,12 @@ fn serve_byte<C: Core>(
     ensures failed { IsErrOf result CoreFault.Failed → SomeRose (C.seen.faults core.old) (C.seen.faults core.new) }
     ensures stored { (IsErrOf result CoreFault.Failed → ⊥) → C.seen.faults core.new ≡ C.seen.faults core.old }
 {
+    units_go_on_and_end();
     steps_record_their_changes();
     if !link.standing.is_open() {
         return Ok(());
     }
-    let fed = link.lexer.feed(byte)?;
+    let fed = link.reader.feed(byte)?;
     match fed.ending() {
         None => {
             add_prompt(fed, &mut link.queue)?;
@@ -97,7 +99,7 @@ fn serve_byte<C: Core>(
             core,
             link.number,
             &mut link.standing,
-            &mut link.lexer,
+            &mut link.reader,
             &mut link.queue,
             shown,
             moment,
@@ -105,21 +107,23 @@ fn serve_byte<C: Core>(
     }
 }
 
-/// Takes the bytes of a piece that go on with a literal, and tells how many they are. Where the link isn't open, they are none.
-fn take_literal(link: &mut Link, piece: &[u8]) -> Result<usize, AllocError>
+/// Takes the bytes of a piece that go on with a literal or a line of a text, and tells how many they are. Where the link isn't
+/// open, they are none.
+fn take_inside(link: &mut Link, piece: &[u8]) -> Result<usize, AllocError>
     ensures within { IfOk result (λ count. count ≤ length piece.now) }
     ensures taken { IfOk result (λ count. (moment : ℕ) (taking : Taking) → session_of link.old ≡ taking.session
         → take_piece moment taking (take count piece.now) ≡ in_session taking (session_of link.new)) }
     ensures queue { link.new.queue.items ≡ link.old.queue.items }
     ensures number { link.new.number ≡ link.old.number }
 {
+    units_go_on_and_end();
     if !link.standing.is_open() {
         return Ok(0);
     }
-    link.lexer.feed_literal(piece)
+    link.reader.feed_inside(piece)
 }
 
-/// Takes a piece that came by a link, byte by byte, and those of literals together.
+/// Takes a piece that came by a link, byte by byte, and those of literals and of lines of texts together.
 fn serve_bytes<C: Core>(
     core: &mut C,
     link: &mut Link,
@@ -137,7 +141,7 @@ fn serve_bytes<C: Core>(
     steps_record_their_changes();
     let mut rest = piece;
     'bytes: while !rest.is_empty() {
-        let count = take_literal(link, rest)?;
+        let count = take_inside(link, rest)?;
         let Some((byte, behind)) = rest[count..].split_first() else {
             return Ok(());
         };

@@ -1,10 +1,10 @@
 //! A link as the server has it.
 
-ghost use Rattle.std.specs.Prelude.{◌≡◌, None};
-ghost use Rattle.imap_lexer.specs.Units.{first};
+ghost use Rattle.std.specs.Prelude.{◌≡◌, [], None};
+ghost use Rattle.session_units.specs.Units.{first};
 
-use imap_lexer::Lexer;
 use mail_model::Standing;
+use session_units::Reader;
 
 /// A link with its session, and the answers that aren't sent yet.
 #[derive(Drop)]
@@ -13,9 +13,9 @@ pub(crate) struct Link {
     pub(crate) number: u32,
     /// How the link stands.
     pub(crate) standing: Standing,
-    /// The bytes that are no whole unit yet.
-    pub(crate) lexer: Lexer,
+    /// The unit that is awaited, as far as it came.
+    pub(crate) reader: Reader,
     /// The answers that are still to be sent.
     pub(crate) queue: Vec<u8>,
-    ghost awaiting: { first lexer.form lexer.bytes ≡ None },
+    ghost awaiting: { first reader [] ≡ None },
 }

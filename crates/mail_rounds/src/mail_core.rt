@@ -1,7 +1,6 @@
 //! What the server does beside its links.
 
 ghost use Rattle.std.specs.Prelude.{ℕ, ◌≡◌, OnOk, IfOk, IsErrOf};
-ghost use Rattle.imap_lexer.specs.Lexer.{form_of};
 ghost use Rattle.imap_steps.specs.Stepping.{Shared, left_by};
 ghost use Rattle.imap_steps.specs.Step.{step, greeting};
 ghost use Rattle.mail_rounds.specs.declared.mail_core.CoreFault.TheVariants.{NoMemory as CoreNoMemory};
@@ -9,8 +8,8 @@ ghost use Rattle.mail_rounds.specs.CoreSeen.{CoreSeen, LeavesFiles, SomeRose};
 ghost use Rattle.mail_rounds.specs.Crashes.{MayLeave};
 ghost use Rattle.mail_rounds.specs.Steps.{IsStep};
 
-use imap_lexer::Shown;
 use port_model::Kind;
+use session_units::{Awaits, Shown};
 use std::alloc::AllocError;
 
 /// What a unit does to the link of its session.
@@ -18,8 +17,8 @@ use std::alloc::AllocError;
 pub struct Outcome {
     /// Whether the link is to be closed once its answers are sent.
     pub closes: bool,
-    /// Whether the session awaits a line without literals next.
-    pub plain: bool,
+    /// What the session awaits next.
+    pub awaits: Awaits,
 }
 
 /// Why a core could not do what it was asked. It is asked nothing any more.
@@ -47,14 +46,14 @@ pub trait Core {
     /// counts of faults.
     ghost seen: { CoreSeen Self };
 
-    /// Does what a unit of the session of a number asks, at a moment in seconds since 1970, and adds the answer. With
-    /// `plain` the session awaited a line without literals.
+    /// Does what a unit of the session of a number asks, at a moment in seconds since 1970, and adds the answer. `awaits` is
+    /// the form in which the unit was awaited; of a text of LMTP `unit` is the content, empty where that is too long.
     ///
     /// After a fault `answer` may end with a part of the answer.
     fn execute(
         &mut self,
         number: u32,
-        plain: bool,
+        awaits: Awaits,
         shown: Shown,
         unit: &[u8],
         moment: u64,
@@ -62,11 +61,11 @@ pub trait Core {
     ) -> Result<Outcome, CoreFault>
         requires { seen.ready self.old }
         ensures done { IfOk result (λ outcome. (shared : Shared) → seen.stands self.old shared
-            → IsStep seen self.new answer.old.items answer.new.items outcome.closes (form_of outcome.plain) shared (step shared number (form_of plain) shown unit.now moment)) }
+            → IsStep seen self.new answer.old.items answer.new.items outcome.closes outcome.awaits shared (step shared number awaits shown unit.now moment)) }
         ensures ready { OnOk result (seen.ready self.new) }
 
         // With whatever answer, a crash leaves the world before the step or after it.
-        ensures crash { (shared : Shared) → seen.stands self.old shared → MayLeave seen self.old self.new shared.world (step shared number (form_of plain) shown unit.now moment).change }
+        ensures crash { (shared : Shared) → seen.stands self.old shared → MayLeave seen self.old self.new shared.world (step shared number awaits shown unit.now moment).change }
         ensures failed { IsErrOf result CoreFault.Failed → SomeRose (seen.faults self.old) (seen.faults self.new) }
         ensures quiet { (IsErrOf result CoreFault.Failed → ⊥) → seen.faults self.new ≡ seen.faults self.old };
 
@@ -82,7 +81,7 @@ pub trait Core {
     ) -> Result<Outcome, CoreFault>
         requires { seen.ready self.old }
         ensures done { IfOk result (λ outcome. (shared : Shared) → seen.stands self.old shared
-            → IsStep seen self.new answer.old.items answer.new.items outcome.closes (form_of outcome.plain) shared (greeting shared number kind others)) }
+            → IsStep seen self.new answer.old.items answer.new.items outcome.closes outcome.awaits shared (greeting shared number kind others)) }
         ensures ready { OnOk result (seen.ready self.new) }
 
         // With whatever answer, a crash leaves the world before the step or after it.

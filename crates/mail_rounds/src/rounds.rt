@@ -21,11 +21,11 @@ use crate::link::Link;
 use crate::mail_core::{Core, CoreFault};
 use crate::sending::offer;
 use crate::server::{Server, Unserved};
-use imap_lexer::Lexer;
 use mail_model::{
     changes_stand_by_their_answers, later_changes_stand_behind, steps_record_their_changes,
 };
 use port_model::{Kind, ListenFault, Ports};
+use session_units::Reader;
 use std::alloc::{AllocError, Global};
 
 /// Why a round ended before its end. The server is given up.
@@ -71,36 +71,36 @@ fn new_buffer(alloc: Global) -> Result<Vec<u8>, AllocError>
     vec![in alloc; 0u8; READ_ROOM]
 }
 
-/// As many lexers as there are sessions at once.
-fn new_lexers(alloc: Global) -> Result<Vec<Lexer>, AllocError> {
-    let mut lexers = Vec::with_capacity(alloc, SESSION_LIMIT)?;
-    'lexers: for _ in 0..SESSION_LIMIT {
-        lexers.push(Lexer::new(alloc)?)?;
+/// As many readers as there are sessions at once.
+fn new_readers(alloc: Global) -> Result<Vec<Reader>, AllocError> {
+    let mut readers = Vec::with_capacity(alloc, SESSION_LIMIT)?;
+    'readers: for _ in 0..SESSION_LIMIT {
+        readers.push(Reader::new(alloc)?)?;
     }
-    Ok(lexers)
+    Ok(readers)
 }
 
-/// A lexer of those that are spare, or a new one.
-fn take_lexer(alloc: Global, spare: &mut Vec<Lexer>) -> Result<Lexer, AllocError> {
+/// A reader of those that are spare, or a new one.
+fn take_reader(alloc: Global, spare: &mut Vec<Reader>) -> Result<Reader, AllocError> {
     match spare.pop() {
-        Some(lexer) => Ok(lexer),
-        None => Lexer::new(alloc),
+        Some(reader) => Ok(reader),
+        None => Reader::new(alloc),
     }
 }
 
-/// Keeps a lexer for a link that is to come, unless there are enough. It takes no memory.
-fn spare_lexer(spare: &mut Vec<Lexer>, lexer: Lexer) {
+/// Keeps a reader for a link that is to come, unless there are enough. It takes no memory.
+fn spare_reader(spare: &mut Vec<Reader>, reader: Reader) {
     if spare.len() < spare.capacity() {
-        let _ = spare.push(lexer);
+        let _ = spare.push(reader);
     }
 }
 
-/// The memory of a server: room to read into, the table of links, and lexers for them.
+/// The memory of a server: room to read into, the table of links, and readers for them.
 #[derive(Drop)]
 struct Room {
     buffer: Vec<u8>,
     links: Vec<Link>,
-    spare: Vec<Lexer>,
+    spare: Vec<Reader>,
 }
 
 /// Takes the memory for as many sessions as are served at once.
@@ -111,7 +111,7 @@ fn new_room(alloc: Global) -> Result<Room, AllocError>
     Ok(Room {
         buffer: new_buffer(alloc)?,
         links: Vec::with_capacity(alloc, SESSION_LIMIT)?,
-        spare: new_lexers(alloc)?,
+        spare: new_readers(alloc)?,
     })
 }
 
@@ -237,10 +237,10 @@ impl<C: Core> Server<C> {
         let Link {
             number: _,
             standing: _,
-            lexer,
+            reader,
             queue: _,
         } = self.links.remove(i);
-        spare_lexer(&mut self.spare, lexer);
+        spare_reader(&mut self.spare, reader);
         i
     }
 
@@ -295,14 +295,14 @@ impl<C: Core> Server<C> {
         steps_record_their_changes();
         let others = count_open(&self.links);
         let mut queue = Vec::new(self.alloc);
-        let mut lexer = take_lexer(self.alloc, &mut self.spare)?;
+        let mut reader = take_reader(self.alloc, &mut self.spare)?;
         let outcome = self.core.greet(number, kind, others, &mut queue)?;
-        lexer.next(outcome.plain);
+        reader.next(outcome.awaits);
         let standing = settle(&mut self.core, number, outcome.closes);
         let link = Link {
             number,
             standing,
-            lexer,
+            reader,
             queue,
         };
         add_link(&mut self.links, link)?;

@@ -3,7 +3,7 @@
 ghost use Rattle.std.specs.Prelude.{◌≡◌, length};
 
 use crate::link::Link;
-use imap_lexer::Lexer;
+use session_units::Reader;
 use std::alloc::Global;
 
 /// A server over a core.
@@ -19,8 +19,8 @@ pub struct Server<C> {
     pub(crate) last: u32,
     /// Where links are read into.
     pub(crate) buffer: Vec<u8>,
-    /// Lexers for links that are to come, each with its memory.
-    pub(crate) spare: Vec<Lexer>,
+    /// Readers for links that are to come, each with its memory.
+    pub(crate) spare: Vec<Reader>,
     /// Whether the server is given up.
     pub(crate) spent: bool,
     ghost room: { length buffer.items ≡ 65536 },

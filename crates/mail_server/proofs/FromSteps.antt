@@ -5,7 +5,6 @@ use Rattle.disk_model.specs.Told.{Told}
 use Rattle.row_store.specs.declared.faults.StoreFault.{StoreFault}
 use Rattle.row_store.specs.ThreeFiles.{FaultRose, CountsNoFault, LogMoments, moments}
 use Rattle.row_store.specs.Holding.{in_row}
-use Rattle.imap_lexer.specs.Lexer.{form_of}
 use Rattle.session_view.specs.declared.sessions.SessionPart.{SessionPart}
 use Rattle.imap_steps.specs.declared.outcome.Outcome as told_as
 use Rattle.imap_steps.specs.Stepping.{World, Change, Shared, Stepped, changed, left_by}
@@ -65,28 +64,28 @@ module _ {D : Type 0} (told : Told D) (core core' : StoreCore D) (before after :
   step_leaves shared serving (log0 ∷ log1 ∷ more ∷ moments) earlier left = tt
 
   -- A step was made.
-  pub step_done : (answer : Result Outcome CoreFault) → IfOk answer (λ outcome. IsOkAnd result (λ told. (outcome.closes ≡ told.closes) × (outcome.plain ≡ told.plain)))
-      → IfOk answer (λ outcome. (shared : Shared) → (core_seen told).stands core shared → IsStep (core_seen told) core' before after outcome.closes (form_of outcome.plain) shared (steps shared))
+  pub step_done : (answer : Result Outcome CoreFault) → IfOk answer (λ outcome. IsOkAnd result (λ told. (outcome.closes ≡ told.closes) × (outcome.awaits ≡ told.awaits)))
+      → IfOk answer (λ outcome. (shared : Shared) → (core_seen told).stands core shared → IsStep (core_seen told) core' before after outcome.closes outcome.awaits shared (steps shared))
   unfolding core_seen
   step_done (Err fault) is = tt
   step_done (Ok outcome) is = λ shared serving.
-      let found = ok-of result (λ told. (outcome.closes ≡ told.closes) × (outcome.plain ≡ told.plain)) is in
+      let found = ok-of result (λ told. (outcome.closes ≡ told.closes) × (outcome.awaits ≡ told.awaits)) is in
       let ok : IsOk result = subst (λ (r : Result told_as.Outcome StoreFault). IsOk r) (sym found.1) refl in
       let does = its shared serving in
-      let out = subst (λ (r : Result told_as.Outcome StoreFault). IfOk r (λ outcome. (outcome.closes ≡ (steps shared).closes) × (form_of outcome.plain ≡ (steps shared).next))) found.1 does.tells.outcome in
+      let out = subst (λ (r : Result told_as.Outcome StoreFault). IfOk r (λ outcome. (outcome.closes ≡ (steps shared).closes) × (outcome.awaits ≡ (steps shared).next))) found.1 does.tells.outcome in
       record {
         stands = record { stands = does.stands ok; settled = does.settled ok serving.settled; parts_are = does.parts_are ok };
         answer = does.tells.answer ok;
         closing = found.2.0 ∙ out.0;
-        form = ap form_of found.2.1 ∙ out.1;
+        awaits = found.2.1 ∙ out.1;
       }
 
-  pub step_ready : (answer : Result Outcome CoreFault) → IfOk answer (λ outcome. IsOkAnd result (λ told. (outcome.closes ≡ told.closes) × (outcome.plain ≡ told.plain)))
+  pub step_ready : (answer : Result Outcome CoreFault) → IfOk answer (λ outcome. IsOkAnd result (λ told. (outcome.closes ≡ told.closes) × (outcome.awaits ≡ told.awaits)))
       → (IsOk result → IsReady core'.store core'.sessions) → OnOk answer ((core_seen told).ready core')
   unfolding core_seen
   step_ready (Err fault) is ready = tt
   step_ready (Ok outcome) is ready =
-      let found = ok-of result (λ told. (outcome.closes ≡ told.closes) × (outcome.plain ≡ told.plain)) is in
+      let found = ok-of result (λ told. (outcome.closes ≡ told.closes) × (outcome.awaits ≡ told.awaits)) is in
       ready (subst (λ (r : Result told_as.Outcome StoreFault). IsOk r) (sym found.1) refl)
 
 -- A greeting is a step that leaves the store alone.

@@ -12,7 +12,7 @@ use Rattle.port_model.specs.Playing.{is_of}
 use Rattle.port_model.specs.Script.{opens, is_open as is_opened, AreEvents, AreOnOpen, IsOnOpen, IsPiece}
 use Rattle.port_model.specs.Streams.{moment}
 use Rattle.port_model.specs.History.{PortEvent}
-use Rattle.imap_lexer.specs.Units.{Cut, first}
+use Rattle.session_units.specs.Units.{Cut, first}
 use Rattle.imap_steps.specs.Stepping.{Shared, World}
 use Rattle.mail_model.specs.Machine.{Machine, Session, Taking, machine, take_event, takes, becomes, session_at, of_session, is_open, awaits_more, take_byte, take_piece, take_unit, taking_of, hears_piece, leaves}
 use Rattle.mail_server.specs.Script.{script_machine, port_event, and_opened, port_events, newest_first}
@@ -87,9 +87,8 @@ becomes-same found number before last (session ∷ sessions) h e =
 byte-number : (moment : ℕ) (taking : Taking) (byte : ℕ) → (take_byte moment taking byte).session.number ≡ taking.session.number
 unfolding take_byte
 byte-number moment taking byte =
-    let bytes = taking.session.rest ++ byte ∷ [] in
-    elim (is_open taking.session.standing) as (λ (b : Bool). (cond b (elim (first taking.session.form bytes) as (λ (f : Option Cut). Taking) [ None ↦ awaits_more taking bytes | Some cut ↦ take_unit moment taking cut ]) taking).session.number ≡ taking.session.number) [
-      | true ↦ elim (first taking.session.form bytes) as (λ (f : Option Cut). (elim f as (λ (f : Option Cut). Taking) [ None ↦ awaits_more taking bytes | Some cut ↦ take_unit moment taking cut ]).session.number ≡ taking.session.number) [
+    elim (is_open taking.session.standing) as (λ (b : Bool). (cond b (elim (first taking.session.awaited (byte ∷ [])) as (λ (f : Option Cut). Taking) [ None ↦ awaits_more taking byte | Some cut ↦ take_unit moment taking cut ]) taking).session.number ≡ taking.session.number) [
+      | true ↦ elim (first taking.session.awaited (byte ∷ [])) as (λ (f : Option Cut). (elim f as (λ (f : Option Cut). Taking) [ None ↦ awaits_more taking byte | Some cut ↦ take_unit moment taking cut ]).session.number ≡ taking.session.number) [
         | None ↦ refl
         | Some cut ↦ refl
       ]

@@ -5,10 +5,10 @@ ghost use Rattle.mail_server.specs.StoreCore.{core_seen};
 
 use disk_model::{Disk, Files};
 use imap_exec::{greet, leave, step};
-use imap_lexer::Shown;
 use mail_rounds::{Core, CoreFault, Outcome};
 use port_model::Kind;
 use row_store::{RowStore, StoreFault};
+use session_units::{Awaits, Shown};
 use session_view::Sessions;
 use std::alloc::{AllocError, Global};
 
@@ -52,14 +52,14 @@ impl<D: Disk> StoreCore<D> {
 
 /// What a call of a step answers, as the rounds are told it.
 fn answer_of(told: Result<imap_steps::Outcome, StoreFault>) -> Result<Outcome, CoreFault>
-    ensures done { IfOk result (λ outcome. IsOkAnd told (λ told. (outcome.closes ≡ told.closes) × (outcome.plain ≡ told.plain))) }
+    ensures done { IfOk result (λ outcome. IsOkAnd told (λ told. (outcome.closes ≡ told.closes) × (outcome.awaits ≡ told.awaits))) }
     ensures failed { IsErrOf result CoreFault.Failed → IsErrOf told StoreFault.Failed }
     ensures other { (IsErrOf result CoreFault.Failed → ⊥) → IsErrOf told StoreFault.Failed → ⊥ }
 {
     match told {
         Ok(outcome) => Ok(Outcome {
             closes: outcome.closes,
-            plain: outcome.plain,
+            awaits: outcome.awaits,
         }),
         Err(StoreFault::Failed) => Err(CoreFault::Failed),
         Err(StoreFault::NoMemory) => Err(CoreFault::NoMemory),
@@ -72,7 +72,7 @@ impl<D: Disk> Core for StoreCore<D> {
     fn execute(
         &mut self,
         number: u32,
-        plain: bool,
+        awaits: Awaits,
         shown: Shown,
         unit: &[u8],
         moment: u64,
@@ -83,7 +83,7 @@ impl<D: Disk> Core for StoreCore<D> {
             &mut self.store,
             &mut self.sessions,
             number,
-            plain,
+            awaits,
             shown,
             unit,
             moment,

@@ -2,7 +2,6 @@ use Rattle.std.proofs.Common.{List, refl, ap, ◌∙◌}
 use Rattle.std.specs.List.{count_by}
 use Rattle.mail_model.specs.Machine.{is_open}
 use Rattle.mail_rounds.specs.declared.link.Link.{Link}
-use Rattle.imap_lexer.specs.Lexer.{form_of}
 use Rattle.mail_rounds.proofs.Crashes.{files-same, greeting_idle, greeting_made}
 use Rattle.mail_rounds.proofs.Keeping.{opening-is}
 use Rattle.mail_rounds.proofs.server.Server.open.Goals as goal
@@ -10,13 +9,13 @@ use Rattle.mail_rounds.proofs.server.Server.open.Goals as goal
 pub returns-clause-opens : goal.returns-clause-opens
 returns-clause-opens g c =
     opening-is g.C.Core.seen c.args.self.now.core c.greet.new.self c.settle-standing.new.core c.args.self.now.links.items c.add_link.new.links.items _ c.args.self.now.last c.args.number c.args.kind c.count_open-others.result c.new-queue.result.items
-    c.in_ok-outcome.outcome.closes (form_of c.in_ok-outcome.outcome.plain)
+    c.in_ok-outcome.outcome.closes c.in_ok-outcome.outcome.awaits
     c.in_ok-add_link.ensures
     (c.count_open-others.ensures ∙ ap (λ (links : List Link). count_by (λ link. is_open link.standing) links) c.deref.ensures.value) c.new-queue.ensures.items refl c.settle-standing.ensures.standing c.next.ensures.dropped c.in_ok-outcome.ensures.done
     c.settle-standing.ensures.stands
 
-pub returns-in_err-lexer-clause-crash : goal.returns-in_err-lexer-clause-crash
-returns-in_err-lexer-clause-crash g c =
+pub returns-in_err-reader-clause-crash : goal.returns-in_err-reader-clause-crash
+returns-in_err-reader-clause-crash g c =
     greeting_idle g.C.Core.seen c.args.self.now.core c.args.self.now.links.items c.args.number c.args.kind c.steps_record_their_changes.ensures.world
 
 pub returns-in_err-outcome-clause-crash : goal.returns-in_err-outcome-clause-crash
