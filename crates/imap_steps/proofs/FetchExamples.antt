@@ -80,7 +80,7 @@ by_uid = (refl, refl)
 marked : ((asked true false 1 1 (item.Rfc822Text ∷ [])).answer ≡ codes "* 1 FETCH (RFC822.TEXT {1}\r\nc)\r\na OK FETCH completed\r\n")
     × ((asked true false 1 1 (item.Rfc822Text ∷ [])).change ≡ None)
     × ((asked true true 1 9 (item.Rfc822Text ∷ [])).answer
-        ≡ codes "* 1 FETCH (UID 3 RFC822.TEXT {1}\r\nc)\r\n* 3 FETCH (UID 5 RFC822.TEXT {1}\r\nc FLAGS (\\Flagged \\Seen later \\Recent))\r\na OK UID FETCH completed\r\n")
+    ≡ codes "* 1 FETCH (UID 3 RFC822.TEXT {1}\r\nc)\r\n* 3 FETCH (UID 5 RFC822.TEXT {1}\r\nc FLAGS (\\Flagged \\Seen later \\Recent))\r\na OK UID FETCH completed\r\n")
     × ((asked true true 1 9 (item.Rfc822Text ∷ [])).change ≡ Some (StoreFlags 1 (5 ∷ []) Add (Seen ∷ [])))
 unfolding fetch fetched applied apply refused items_line told_items distinct_items item_text item_name section_of flag_list_of ok_line digits
 marked = (refl, refl, refl, refl)
@@ -105,7 +105,7 @@ two_items = refl
 
 -- Where no mod-sequence is left nothing is marked, and all is told nevertheless.
 full : ((fetch (shared_at 18_446_744_073_709_551_614) (codes "a") (selection_of true) false ((Some 3, Some 3) ∷ []) (item.Rfc822Text ∷ [])).answer
-        ≡ codes "* 3 FETCH (RFC822.TEXT {1}\r\nc)\r\na OK FETCH completed\r\n")
+    ≡ codes "* 3 FETCH (RFC822.TEXT {1}\r\nc)\r\na OK FETCH completed\r\n")
     × ((fetch (shared_at 18_446_744_073_709_551_614) (codes "a") (selection_of true) false ((Some 3, Some 3) ∷ []) (item.Rfc822Text ∷ [])).change ≡ None)
 unfolding fetch fetched applied apply refused items_line told_items distinct_items item_text item_name section_of ok_line digits
 full = (refl, refl)

@@ -102,7 +102,8 @@ served_ok told script core core' calls last (Ok answer) none settled plays crash
         )),
     none-rose told core core' same,
   );
-  leaves = left-store told script core core' none settled crash; keeps = kept-store told script core core' none settled keep;
+  leaves = left-store told script core core' none settled crash;
+  keeps = kept-store told script core core' none settled keep;
   quiet = λ starved. none-rose told core core' same;
 }
 
@@ -124,7 +125,8 @@ served_err told script core core' played PlayStoreFault (Ok answer) is none sett
     let end = ends refl in
     record {
       ends = subst (StoreEnd told script answer.lines.items core.store core'.store.files) (sym (ap (λ (end : End). end.status) end)) (ap (λ (end : End). end.lines) end, some-rose told core core' (failed is));
-      leaves = left-store told script core core' none settled crash; keeps = kept-store told script core core' none settled keep;
+      leaves = left-store told script core core' none settled crash;
+      keeps = kept-store told script core core' none settled keep;
       quiet = λ starved. absurd (true≢false (sym starved));
     }
 served_err told script core core' played PlayNoMemory (Err error) is none settled crash keep failed quiet ends no_memory =

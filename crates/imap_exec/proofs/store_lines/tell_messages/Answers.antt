@@ -1,4 +1,5 @@
-use Rattle.std.proofs.Common.{◌≡◌, ◌++◌, ℕ, List, [], get_or, take, append_assoc, sym, ap, subst, ◌∙◌}
+use Rattle.std.proofs.Common.{◌≡◌, ◌++◌, ℕ, List, arith, get_or, length, take, append_assoc, sym, ap, ◌∙◌}
+use Rattle.std.proofs.Math.Seq.{take-length}
 use Rattle.std.proofs.lemmas.List.{append-nil}
 use Rattle.imap_steps.specs.Storing.{entry_of, told, told_if}
 use Rattle.imap_exec.proofs.StoreLines.{told_more, told_none}
@@ -23,4 +24,8 @@ loop-uid-preserved c content w stands =
     ∙ ap (λ (l : List ℕ). before ++ l) (sym (told_more w chosen by_uid uids k c.loop-uid-test.true))))
 
 pub returns : goal.returns
-returns c content w stands = ?
+returns c content w stands =
+    let uids = c.args.uids.now in
+    let told_so = λ (l : List ℕ). told w c.args.selection.now c.args.by_uid l in
+    let all : c.loop-uid.uid-index ≡ length uids = omega arith in
+    c.loop-uid.invariant content w stands ∙ ap (λ (l : List ℕ). c.args.answer.now.items ++ told_so l) (ap (λ (n : ℕ). take n uids) all ∙ take-length uids)
