@@ -25,7 +25,6 @@ use Rattle.imap_steps.specs.Managing.{delete, subscribe, unsubscribe}
 use Rattle.imap_steps.specs.Status.{status, is_highest}
 use Rattle.imap_steps.specs.Renaming.{rename}
 use Rattle.imap_steps.specs.Storing.{store}
-use Rattle.mail_world.specs.Names.{is_inbox}
 
 -- ---- when a command may be given
 
@@ -84,11 +83,6 @@ abbrev pub status_plainly : Shared → List ℕ → State → List ℕ → List 
 status_plainly shared tag state name items =
     if list_any is_highest items then unserved shared tag else of_user shared tag state (λ user. status shared user tag name items)
 
--- RENAME of another mailbox than INBOX; that of its messages isn't served yet (RFC 3501 §6.3.5)
-abbrev pub rename_plainly : Shared → List ℕ → State → List ℕ → List ℕ → Stepped
-rename_plainly shared tag state from to =
-    if is_inbox from then unserved shared tag else of_user shared tag state (λ user. rename shared user tag from to)
-
 -- STORE without what CONDSTORE brings, which isn't served yet (RFC 4551 §3.2)
 abbrev pub store_plainly : Shared → List ℕ → State → Bool → List (Option ℕ × Option ℕ) → Option ℕ → FlagChange → Bool → List Flag → Stepped
 store_plainly shared tag state by_uid ranges None how silent flags = of_selection shared tag state (λ selection. store shared tag selection by_uid ranges how silent flags)
@@ -107,7 +101,7 @@ commanded shared number state tag (Delete name) now = of_user shared tag state (
 commanded shared number state tag (Subscribe name) now = of_user shared tag state (λ user. subscribe shared user tag name)
 commanded shared number state tag (Unsubscribe name) now = of_user shared tag state (λ user. unsubscribe shared user tag name)
 commanded shared number state tag (Status name items) now = status_plainly shared tag state name items
-commanded shared number state tag (Rename from to) now = rename_plainly shared tag state from to
+commanded shared number state tag (Rename from to) now = of_user shared tag state (λ user. rename shared user tag from to)
 commanded shared number state tag (Select name examine condstore resync) now = select_plainly shared number tag state name examine condstore resync
 commanded shared number state tag (Append name flags date text) now = of_user shared tag state (λ user. append shared user tag name flags date text now)
 commanded shared number state tag Check now = while_selected shared tag state (completed shared tag (codes "CHECK"))

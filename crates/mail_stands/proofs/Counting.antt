@@ -58,7 +58,7 @@ module _ (m : ℕ) where
           (uid_less places m x.uid y.uid (subst (λ n. key_cmp (uid_key m x.uid) (uid_key n y.uid) ≡ Less) (eqb-true y.mailbox m q) first), rest)
       by false q rest = rest
 
-  uids_ascend : Places → (rows : List MailboxMessage) → IsInOrder mailbox_message_key rows → Ascend (uids_of m rows)
+  pub uids_ascend : Places → (rows : List MailboxMessage) → IsInOrder mailbox_message_key rows → Ascend (uids_of m rows)
   unfolding IsStrictlySortedBy
   uids_ascend places [] order = tt
   uids_ascend places (x ∷ rows) order = by (here x) refl (uids_ascend places rows order.1)
@@ -68,7 +68,7 @@ module _ (m : ℕ) where
       by false q rest = rest
 
   -- the row of a UID
-  row_of : (uid : ℕ) (rows : List MailboxMessage) → find (λ r. r.uid == uid) (filter here rows) ≡ row_at mailbox_message_key (uid_key m uid) rows
+  pub row_of : (uid : ℕ) (rows : List MailboxMessage) → find (λ r. r.uid == uid) (filter here rows) ≡ row_at mailbox_message_key (uid_key m uid) rows
   row_of uid [] = refl
   row_of uid (r ∷ rows) = by (here r) (r.uid == uid) refl (row_of uid rows)
     where

@@ -46,7 +46,7 @@ one_left p x ys r b true e h i = rw e (ap (λ o. cond b (Some x) o) i)
 one_left p x ys r false false e h i = i
 one_left p x ys r true false e h i = absurd (false≢true (h refl))
 
-find-kept : {X : Type 0} (p q : X → Bool) → ((x : X) → p x ≡ true → q x ≡ true) → (xs : List X) → find p (filter q xs) ≡ find p xs
+pub find-kept : {X : Type 0} (p q : X → Bool) → ((x : X) → p x ≡ true → q x ≡ true) → (xs : List X) → find p (filter q xs) ≡ find p xs
 find-kept p q h [] = refl
 find-kept p q h (x ∷ xs) = one_left p x (filter q xs) (find p xs) (p x) (q x) refl (h x) (find-kept p q h xs)
 
@@ -55,7 +55,7 @@ none_left p x ys b false e h i = i
 none_left p x ys false true e h i = rw e i
 none_left p x ys true true e h i = absurd (true≢false (h refl))
 
-find-lost : {X : Type 0} (p q : X → Bool) → ((x : X) → p x ≡ true → q x ≡ false) → (xs : List X) → find p (filter q xs) ≡ None
+pub find-lost : {X : Type 0} (p q : X → Bool) → ((x : X) → p x ≡ true → q x ≡ false) → (xs : List X) → find p (filter q xs) ≡ None
 find-lost p q h [] = refl
 find-lost p q h (x ∷ xs) = none_left p x (filter q xs) (p x) (q x) refl (h x) (find-lost p q h xs)
 
@@ -133,7 +133,7 @@ each_named : (world : World) → IsLegal world → AllByRecursion (λ m. mailbox
 each_named world legal = all-weaker _ (λ m. mailbox_named m.head.owner m.head.name world.mailboxes ≡ Some m) (λ m at. (legal.mailboxes m.head.id m at).named) world.mailboxes (each_at world legal)
 
 -- to have the name is to have the id
-name_is_id : (world : World) (owner : ℕ) (name : List ℕ) (found : Mailbox) → IsLegal world → mailbox_named owner name world.mailboxes ≡ Some found
+pub name_is_id : (world : World) (owner : ℕ) (name : List ℕ) (found : Mailbox) → IsLegal world → mailbox_named owner name world.mailboxes ≡ Some found
     → AllByRecursion (λ m. is_named owner name m ≡ has_id found.head.id m) world.mailboxes
 name_is_id world owner name found legal is =
     all_both (λ m. mailbox_at m.head.id world.mailboxes ≡ Some m) (λ m. mailbox_named m.head.owner m.head.name world.mailboxes ≡ Some m) (λ m. is_named owner name m ≡ has_id found.head.id m)

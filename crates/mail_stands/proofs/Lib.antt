@@ -11,6 +11,16 @@ mod Subscribing
 mod NewNames
 mod Replacing
 mod Renamed
+mod Batches
+mod Changing
+mod Adding
+mod MovedRows
+mod InTurns
+mod Apart
+mod MovingFits
+mod MovingRuns
+mod MovedInbox
+mod InboxMoved
 mod Written
 mod FlagTexts
 mod OneWorld

@@ -76,7 +76,7 @@ behind_users : Numbers → InsertLaws user_key → (row : User) (rows : List Use
 behind_users numbers laws row rows below =
     laws.behind row rows (all-weaker (λ r. r.id < row.id) (λ r. is_below user_key (user_key row) r ≡ true) (λ r less. numbers r.id row.id ∙ lt-ltb r.id row.id less) rows below)
 
-behind_heads : Numbers → InsertLaws mailbox_key → (row : Head) (rows : List Head) → AllByRecursion (λ r. r.id < row.id) rows → with_row mailbox_key row rows ≡ rows ++ row ∷ []
+pub behind_heads : Numbers → InsertLaws mailbox_key → (row : Head) (rows : List Head) → AllByRecursion (λ r. r.id < row.id) rows → with_row mailbox_key row rows ≡ rows ++ row ∷ []
 behind_heads numbers laws row rows below =
     laws.behind row rows (all-weaker (λ r. r.id < row.id) (λ r. is_below mailbox_key (mailbox_key row) r ≡ true) (λ r less. numbers r.id row.id ∙ lt-ltb r.id row.id less) rows below)
 
@@ -113,7 +113,7 @@ pub create_runs : (t : TableRows) (owner : ℕ) (name : List ℕ) → IsText nam
 create_runs t owner name text there new = ((text, new, there), (tt, refl))
 
 -- the rows of a world have no mailbox with the next id
-next_new : (content : BodyPart → List ℕ) (t : TableRows) (world : World) → Shows content t world → AllByRecursion (λ r. r.id < world.next) (map (λ m. m.head) world.mailboxes)
+pub next_new : (content : BodyPart → List ℕ) (t : TableRows) (world : World) → Shows content t world → AllByRecursion (λ r. r.id < world.next) (map (λ m. m.head) world.mailboxes)
     → row_at mailbox_key (number_key t.heads.counters.next) t.heads.mailboxes ≡ None
 next_new content t world s below =
     ap (λ n. row_at mailbox_key (number_key n) t.heads.mailboxes) s.next ∙ ap (row_at mailbox_key (number_key world.next)) s.mailboxes ∙ no_head world.next (map (λ m. m.head) world.mailboxes) below

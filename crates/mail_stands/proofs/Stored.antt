@@ -89,7 +89,7 @@ sorted_apart (uid ∷ uids) order = (all-weaker (λ n. nat_cmp uid n ≡ Less) (
 
 -- ---- the messages that are named, in the rows and in the world
 
-found_any : {X : Type 0} (r p : X → Bool) (xs : List X) (y : X) → find p xs ≡ Some y → r y ≡ true → list_any r xs ≡ true
+pub found_any : {X : Type 0} (r p : X → Bool) (xs : List X) (y : X) → find p xs ≡ Some y → r y ≡ true → list_any r xs ≡ true
 found_any r p [] y found e = absurd (none-some y found)
 found_any r p (x ∷ xs) y found e = by (p x) found (λ q. found_any r p xs y q e)
   where
@@ -119,7 +119,7 @@ any_named entries ascend there are p q same uids =
     let parts = and_parts (is_among e.uid uids) (q e) passes in
     among_any (λ uid. there uid && p uid) uids e.uid parts.0 (and_from (there e.uid) (p e.uid) (are e.uid ∙ ap is_some found) (same e.uid e found ∙ parts.1))))
 
-tied_some : {X Y : Type 0} (R : X → Y → Type 0) (a : Option X) (b : Option Y) → Tied R a b → is_some a ≡ is_some b
+pub tied_some : {X Y : Type 0} (R : X → Y → Type 0) (a : Option X) (b : Option Y) → Tied R a b → is_some a ≡ is_some b
 tied_some R None None tied = refl
 tied_some R None (Some y) tied = absurd tied.tie
 tied_some R (Some x) None tied = absurd tied.tie

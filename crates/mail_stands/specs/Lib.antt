@@ -5,6 +5,7 @@ pub mod Leading
 pub mod Refusals
 pub mod RowChanges
 pub mod Renaming
+pub mod MovingInbox
 pub mod Naming
 pub mod Arriving
 pub mod Storing

@@ -2,12 +2,13 @@
 //! standing for the world after a change.
 //!
 //! There is no code here but functions whose contracts are laws of the definitions, which stand in `specs/`: `Stands` says what tables
-//! stand for, `Refusals` why a change is not made as the tables tell it, `RowChanges`, `Naming`, `Arriving` and `Storing` which rows
-//! make a change, `Leading` what they lead to, `Sameness` how far tables tell worlds apart.
+//! stand for, `Refusals` why a change is not made as the tables tell it, `RowChanges`, `Naming`, `Arriving`, `Storing` and
+//! `MovingInbox` which rows make a change, `Leading` what they lead to, `Sameness` how far tables tell worlds apart.
 #![tactic(auto)]
 
 mod arriving;
 mod laws;
+mod moving_inbox;
 mod renaming;
 mod storing;
 
@@ -16,5 +17,6 @@ pub use laws::{
     add_user, create, delete, entry_rows, mailbox_rows, no_rows_stand, one_world, subscribe,
     take_recents, unsubscribe, user_rows,
 };
+pub use moving_inbox::rename_inbox;
 pub use renaming::rename;
 pub use storing::store_flags;

@@ -34,3 +34,4 @@ pub mod Renames
 pub mod PlannedNames
 pub mod StoredPlans
 pub mod StoredCalls
+pub mod MovedInbox

@@ -1,5 +1,5 @@
 -- Names that are subscribed.
-use Rattle.std.proofs.Common.{◌≡◌, ◌&&◌, ◌||◌, ℕ, Bool, true, false, not, cond, nat_le, List, [], ◌∷◌, length, Some, None, is_some, refl, sym, subst}
+use Rattle.std.proofs.Common.{◌≡◌, ◌&&◌, ℕ, Bool, true, false, not, cond, nat_le, List, [], ◌∷◌, length, Some, None, is_some, refl, sym, subst}
 use Rattle.std.proofs.lemmas.Option.{none-some}
 use Rattle.row_tables.specs.Names.{mailbox_named}
 use Rattle.row_tables.specs.TableRows.{TableRows}
@@ -11,7 +11,7 @@ use Rattle.row_tables.specs.declared.change.RowChange.TheVariants.{InsertSubscri
 use Rattle.row_store.specs.Bodies.{ArePlaced}
 use Rattle.mail_world.specs.Names.{is_mailbox_name}
 use Rattle.mail_world.specs.Limits.{most_subscriptions}
-use Rattle.mail_world.specs.Changes.{Refusal, BadName, Absent, Full}
+use Rattle.mail_world.specs.Changes.{BadName, Absent, Full}
 use Rattle.mail_stands.specs.Refusals.{is_subscribed, subscribe_refused, unsubscribe_refused}
 use Rattle.mail_stands.specs.RowChanges.{subscribe_changes}
 use Rattle.mailbox_core.proofs.Lengths.{mailbox_is_text, passes_first}

@@ -11,3 +11,4 @@ pub mod SummaryRows
 pub mod Listing
 pub mod Statuses
 pub mod Renaming
+pub mod MovingInbox

@@ -1,4 +1,4 @@
-//! Mailboxes that get other names.
+//! Mailboxes other than INBOX that get other names.
 
 ghost use Rattle.std.specs.Prelude.{◌≡◌, ◌++◌, ◌∷◌, [], if◌then◌else◌, Some, false, true, MatchResult, IfOk, IfErr, OnOk};
 ghost use Rattle.row_tables.specs.Names.{mailbox_named};
@@ -26,13 +26,13 @@ use std::alloc::{AllocError, Global};
 // How many bytes a name may have.
 const LONGEST_NAME: usize = 255;
 
-/// Renames a mailbox of a user other than INBOX, with all that are inferior to it: they keep their messages, their UIDs and their ids
-/// (RFC 3501 §6.3.5). A new name that is INBOX in any case is `INBOX`.
-///
-/// Refused with `BadName` where no mailbox can have the new name, or that of one that is renamed would be too long, with `Absent`
-/// where the user has no such mailbox, and with `Exists` where the user has a mailbox of a new name. Looks at the user's mailboxes whose
-/// names begin with the name, once or twice, and costs one commit.
-pub fn rename<D: Disk>(
+// Renames a mailbox of a user other than INBOX, with all that are inferior to it: they keep their messages, their UIDs and their ids
+// (RFC 3501 §6.3.5). A new name that is INBOX in any case is `INBOX`.
+//
+// Refused with `BadName` where no mailbox can have the new name, or that of one that is renamed would be too long, with `Absent`
+// where the user has no such mailbox, and with `Exists` where the user has a mailbox of a new name. Looks at the user's mailboxes whose
+// names begin with the name, once or twice, and costs one commit.
+pub(crate) fn rename_other<D: Disk>(
     alloc: Global,
     store: &mut RowStore<D>,
     user: u32,

@@ -116,7 +116,7 @@ fn room_for_mailbox(tables: &Tables, owner: u32, name: &[u8]) -> Result<u32, Mai
 
 // Whether a user has as many mailboxes as a user may have.
 #[tactic(auto, using(crate::proofs::Counts::mailboxes_counted))]
-fn has_most_mailboxes(tables: &Tables, owner: u32) -> bool
+pub(crate) fn has_most_mailboxes(tables: &Tables, owner: u32) -> bool
     ensures { result ≡ nat_le most_mailboxes (length (mailboxes_of owner tables.now.heads.mailboxes)) }
 {
     tables.mailbox_count(owner) >= MOST_MAILBOXES

@@ -1,4 +1,4 @@
-use Rattle.std.proofs.Common.{◌≡◌, ◌+◌, ℕ, Bool, is_some, sym, ap, ◌∙◌, cond, ◌≤◌, subst, arith}
+use Rattle.std.proofs.Common.{◌+◌, ℕ, Bool, is_some, sym, ap, ◌∙◌, arith}
 use Rattle.std.specs.List.{count_by, range_with_len}
 use Rattle.ordered_rows.specs.Listed.{row_at}
 use Rattle.row_tables.specs.Keys.{mailbox_message_key, uid_key}

@@ -1,10 +1,8 @@
-use Rattle.std.proofs.Common.{ℕ, ◌≡◌, ◌+◌, ◌≤◌, List, codes, length, sym, ap, subst, ◌∙◌, arith}
+use Rattle.std.proofs.Common.{ℕ, ◌≡◌, ◌+◌, ◌≤◌, List, codes, length, sym, subst, ◌∙◌, arith}
 use Rattle.std.specs.List.Sorted.{IsStrictlySortedBy}
 use Rattle.std.specs.Ordering.{nat_cmp}
 use Rattle.row_tables.specs.References.{flags_of, uids_of}
-use Rattle.row_tables.specs.RowCounts.{entry_count}
 use Rattle.row_tables.specs.declared.marks.FlagRow.{FlagRow}
-use Rattle.mailbox_core.specs.Statuses.{unseen_uids}
 use Rattle.mailbox_core.specs.SummaryRows.{flagged_uids}
 use Rattle.mailbox_core.proofs.Tallied.{without_named, without_unnamed}
 use Rattle.mailbox_core.proofs.statuses.unseen_count.Goals as goal

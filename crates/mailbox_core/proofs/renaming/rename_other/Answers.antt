@@ -10,7 +10,7 @@ use Rattle.mailbox_core.specs.Renaming.{PlansNoRename, PlansRename}
 use Rattle.mailbox_core.proofs.Behaving.{behaves_alone, error_of}
 use Rattle.mailbox_core.proofs.Planned.{planned_made, refuses_none}
 use Rattle.mailbox_core.proofs.PlannedNames.{Laws, rename_answers, rename_ends, rename_led, rename_none, rename_placed, rename_sound}
-use Rattle.mailbox_core.proofs.renaming.rename.Goals as goal
+use Rattle.mailbox_core.proofs.renaming.rename_other.Goals as goal
 
 pub finish-requires-clause-fit : goal.finish-requires-clause-fit
 finish-requires-clause-fit g c =
