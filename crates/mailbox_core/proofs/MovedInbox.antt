@@ -167,10 +167,14 @@ emptied_placed placed row (r ∷ rows) = (tt, tt)
 pub moving_placed : (placed : List BodyPart) (t : TableRows) (to : List ℕ) (row : Head) → ArePlaced placed (rename_inbox_changes t to row)
 moving_placed placed t to row =
     let rows = messages_of row.id t.marks.mailbox_messages in
-    let next = t.heads.counters.next in
-    (tt, (tt,
-    placed_both placed (entry_insertions (moved_rows next 1 2 rows)) _ (entries_placed placed (moved_rows next 1 2 rows))
-    (placed_both placed (flag_row_insertions (moved_flags next 1 t.marks.flags rows)) _ (flags_placed placed (moved_flags next 1 t.marks.flags rows))
-    (placed_both placed (flag_row_removals (flags_of row.id t.marks.flags)) _ (no_flags_placed placed (flags_of row.id t.marks.flags))
-    (placed_both placed (entry_removals row.id (uids_of row.id t.marks.mailbox_messages)) _ (no_entries_placed placed row.id (uids_of row.id t.marks.mailbox_messages))
-    (placed_both placed (gone_insertions (gone_rows (row.highest + 1) rows)) (emptied row rows) (gone_placed placed (gone_rows (row.highest + 1) rows)) (emptied_placed placed row rows)))))))
+    let next = t.heads.counters.next in (
+      tt,
+      (
+        tt,
+        placed_both placed (entry_insertions (moved_rows next 1 2 rows)) _ (entries_placed placed (moved_rows next 1 2 rows))
+            (placed_both placed (flag_row_insertions (moved_flags next 1 t.marks.flags rows)) _ (flags_placed placed (moved_flags next 1 t.marks.flags rows))
+            (placed_both placed (flag_row_removals (flags_of row.id t.marks.flags)) _ (no_flags_placed placed (flags_of row.id t.marks.flags))
+            (placed_both placed (entry_removals row.id (uids_of row.id t.marks.mailbox_messages)) _ (no_entries_placed placed row.id (uids_of row.id t.marks.mailbox_messages))
+            (placed_both placed (gone_insertions (gone_rows (row.highest + 1) rows)) (emptied row rows) (gone_placed placed (gone_rows (row.highest + 1) rows)) (emptied_placed placed row rows))))),
+      ),
+    )

@@ -84,11 +84,7 @@ fn plan_moving(
 }
 
 // The row of a user's INBOX, if its messages may go to a new mailbox of a name.
-fn inbox_to_move<'a>(
-    tables: &'a Tables,
-    owner: u32,
-    to: &[u8],
-) -> Result<&'a Mailbox, MailFault>
+fn inbox_to_move<'a>(tables: &'a Tables, owner: u32, to: &[u8]) -> Result<&'a Mailbox, MailFault>
     ensures found { IfOk result (λ row. MayMove tables.now owner to.now row.now) }
     ensures none { IfErr result (λ fault. PlansNone (IsMovable tables.now owner to.now) fault (rename_inbox_refused tables.now owner to.now)) }
     ensures refuses { IfErr result (IsRefusal (BadName ∷ Absent ∷ Exists ∷ Full ∷ [])) }

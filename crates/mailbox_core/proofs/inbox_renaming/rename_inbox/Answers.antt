@@ -95,9 +95,10 @@ returns-in-Err-clause-makes g c w from stands is =
     subst (λ (n : List ℕ). PlansNone (IsMovable t user n) c.in-Err.fault (rename_inbox_refused t user n)) c.canonical_name.ensures
     (subst (λ (u : TableRows). PlansNone (IsMovable u user c.canonical_name.result.now) c.in-Err.fault (rename_inbox_refused u user c.canonical_name.result.now)) c.tables-2.ensures c.in-Err.ensures.none) in
     let leads : rename_inbox_refused t user name ≡ None → IsMovable t user name × Leads in_row t (changes_of t name (mailbox_named user inbox t.heads.mailboxes)) next =
-    λ (e : rename_inbox_refused t user name ≡ None).
-    (λ (row : Mailbox) found. c.rename_inbox.ensures.can in_row t w user name row whole stands found e,
-    led t user name next e (λ (row : Mailbox) found. c.rename_inbox.ensures.leads in_row t w user from to row whole stands is found e)) in
+    λ (e : rename_inbox_refused t user name ≡ None). (
+      λ (row : Mailbox) found. c.rename_inbox.ensures.can in_row t w user name row whole stands found e,
+      led t user name next e (λ (row : Mailbox) found. c.rename_inbox.ensures.leads in_row t w user from to row whole stands is found e),
+    ) in
     planned_none g.D.Disk.told c.args.store.now w next tt (IsMovable t user name) (changes_of t name (mailbox_named user inbox t.heads.mailboxes)) c.in-Err.fault
     (rename_inbox_refused t user name) (refused w (Rename user from to)) (c.is_settled.ensures.stays c.requires.usable)
     (c.rename_inbox.ensures.refusal in_row t w user from to whole stands is) none stands leads
