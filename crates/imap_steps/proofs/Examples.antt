@@ -178,17 +178,19 @@ told : (verifier : List ℕ) (mail : Mail)
 unfolding status status_line text_of ok_line no_line digits
 told verifier mail = (refl, refl, refl, refl)
 
--- The new name is looked at first. INBOX is written in any case, and its messages can't be moved yet.
+-- The new name is looked at first. INBOX is written in any case, and hands its messages to a new mailbox.
 renamed : (verifier : List ℕ)
     → ((asked (store_of verifier empty_inbox (Known 1)) (Rename (codes "none") (codes "a//b"))).answer ≡ codes "a NO [CANNOT] bad name\r\n")
     × ((asked (store_of verifier empty_inbox (Known 1)) (Rename (codes "none") (codes "work"))).answer ≡ codes "a NO [NONEXISTENT] no such mailbox\r\n")
     × ((asked (store_of verifier empty_inbox Fresh) (Rename (codes "none") (codes "work"))).answer ≡ codes "a BAD state\r\n")
-    × ((asked (store_of verifier empty_inbox (Known 1)) (Rename (codes "Inbox") (codes "work"))).answer ≡ codes "a BAD syntax\r\n")
+    × ((asked (store_of verifier empty_inbox (Known 1)) (Rename (codes "Inbox") (codes "work"))).answer ≡ codes "a OK RENAME completed\r\n")
+    × ((asked (store_of verifier empty_inbox (Known 1)) (Rename (codes "Inbox") (codes "work"))).change ≡ Some (Renames 1 (codes "Inbox") (codes "work")))
+    × ((asked (store_of verifier empty_inbox (Known 1)) (Rename inbox (codes "Inbox"))).answer ≡ codes "a NO [ALREADYEXISTS] mailbox exists\r\n")
     × ((asked (store_of verifier (new_mailbox 1 1 (codes "work")) (Known 1)) (Rename (codes "work") (codes "work"))).answer ≡ codes "a NO [ALREADYEXISTS] mailbox exists\r\n")
     × ((asked (store_of verifier (new_mailbox 1 1 (codes "work")) (Known 1)) (Rename (codes "work") (codes "play"))).answer ≡ codes "a OK RENAME completed\r\n")
     × ((asked (store_of verifier (new_mailbox 1 1 (codes "work")) (Known 1)) (Rename (codes "work") (codes "play"))).change ≡ Some (Renames 1 (codes "work") (codes "play")))
 unfolding rename refused is_mailbox_name no_line ok_line
-renamed verifier = (refl, refl, refl, refl, refl, refl, refl)
+renamed verifier = (refl, refl, refl, refl, refl, refl, refl, refl, refl)
 
 absent : (verifier : List ℕ)
     → (asked (store_of verifier empty_inbox (Known 1)) (Append (codes "work") (Keyword (codes "later") ∷ Seen ∷ []) None (codes "hi"))).answer
