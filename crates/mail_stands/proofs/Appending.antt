@@ -65,7 +65,7 @@ OneEnd = (t : TableRows) (changes : List RowChange) (after other : TableRows) �
 -- ---- where the message comes
 
 -- a message that isn't there has no flags
-no_flags : SameKeys → (t : TableRows) → AreClosed t → (id uid : ℕ) → row_at mailbox_message_key (uid_key id uid) t.marks.mailbox_messages ≡ None → (flag : ℕ) → row_at flag_key (uid_flag_key id uid flag) t.marks.flags ≡ None
+pub no_flags : SameKeys → (t : TableRows) → AreClosed t → (id uid : ℕ) → row_at mailbox_message_key (uid_key id uid) t.marks.mailbox_messages ≡ None → (flag : ℕ) → row_at flag_key (uid_flag_key id uid flag) t.marks.flags ≡ None
 no_flags same t closed id uid none flag = by (row_at flag_key (uid_flag_key id uid flag) t.marks.flags) refl
   where
     by : (o : Option FlagRow) → row_at flag_key (uid_flag_key id uid flag) t.marks.flags ≡ o → o ≡ None
@@ -82,7 +82,7 @@ tied_none R (Some x) None tied e = absurd tied.tie
 tied_none R (Some x) (Some y) tied e = absurd (none-some y (sym e))
 
 -- the next UID of a mailbox is of no message
-no_entry : (world : World) (m : Mailbox) → IsLegal world → mailbox_at m.head.id world.mailboxes ≡ Some m → entry_at m.head.uidnext m.entries ≡ None
+pub no_entry : (world : World) (m : Mailbox) → IsLegal world → mailbox_at m.head.id world.mailboxes ≡ Some m → entry_at m.head.uidnext m.entries ≡ None
 no_entry world m legal at = by (entry_at m.head.uidnext m.entries) refl
   where
     by : (o : Option Entry) → entry_at m.head.uidnext m.entries ≡ o → o ≡ None

@@ -30,9 +30,15 @@ mod Staying
 mod Flags
 mod Arrivals
 mod Appending
+mod Receiving
+mod ManyArrivals
+mod Delivered
 mod Among
 mod StoredFlags
 mod StoredIds
 mod Moving
 mod Stored
+mod GoneOnes
+mod Removing
+mod Expunged
 mod Examples

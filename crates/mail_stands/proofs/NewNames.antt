@@ -10,7 +10,7 @@ use Rattle.std.proofs.lemmas.List.Folds.{list_all-append}
 use Rattle.row_tables.specs.Fits.{IsText}
 use Rattle.mail_world.specs.Names.{same_name, separator, is_name_byte, is_level, is_mailbox_name, is_inferior, is_renamed, renamed_as, longest_name}
 
-same_bytes : (a b : List ℕ) → pointwise nat_eq a b ≡ true → a ≡ b
+pub same_bytes : (a b : List ℕ) → pointwise nat_eq a b ≡ true → a ≡ b
 same_bytes a b e = (bytes_decides a b).0 e
 
 -- ---- what a renamed name is

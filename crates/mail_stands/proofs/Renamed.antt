@@ -63,11 +63,11 @@ module _ (laws : InsertLaws mailbox_key) (t : TableRows) (owner : ℕ) (from : L
 
 -- ---- what is renamed in the world
 
-none_any : {X : Type 0} (p : X → Bool) (xs : List X) → AllByRecursion (λ x. p x ≡ false) xs → list_any p xs ≡ false
+pub none_any : {X : Type 0} (p : X → Bool) (xs : List X) → AllByRecursion (λ x. p x ≡ false) xs → list_any p xs ≡ false
 none_any p [] all = refl
 none_any p (x ∷ xs) all = or_from (p x) (list_any p xs) all.0 (none_any p xs all.1)
 
-found_any : {X : Type 0} (p q : X → Bool) (x : X) (xs : List X) → find q xs ≡ Some x → p x ≡ true → list_any p xs ≡ true
+pub found_any : {X : Type 0} (p q : X → Bool) (x : X) (xs : List X) → find q xs ≡ Some x → p x ≡ true → list_any p xs ≡ true
 found_any p q x [] found passes = absurd (none-some x found)
 found_any {X} p q x (y ∷ ys) found passes = by (q y) found (λ later. found_any p q x ys later passes)
   where
@@ -76,7 +76,7 @@ found_any {X} p q x (y ∷ ys) found passes = by (q y) found (λ later. found_an
     by false e rest = or_right (p y) (list_any p ys) (rest e)
 
 -- what an element that passes gives
-any_gives : {X P : Type 0} (p : X → Bool) (xs : List X) → AllByRecursion (λ x. p x ≡ true → P) xs → list_any p xs ≡ true → P
+pub any_gives : {X P : Type 0} (p : X → Bool) (xs : List X) → AllByRecursion (λ x. p x ≡ true → P) xs → list_any p xs ≡ true → P
 any_gives p [] all any = absurd (false≢true any)
 any_gives {X} {P} p (x ∷ xs) all any = ⊎_elim all.0 (any_gives p xs all.1) (or_cases (p x) (list_any p xs) any)
 

@@ -27,7 +27,7 @@ some_and P (Some x) is use_it = use_it x refl is
 abbrev pub IsOwnedAs : TableRows → Head → Type 0
 IsOwnedAs t new = IsSomeAnd (row_at mailbox_key (number_key new.id) t.heads.mailboxes) (λ now. now.owner ≡ new.owner)
 
-keeps_all : (t : TableRows) → KeepsOwners t t
+pub keeps_all : (t : TableRows) → KeepsOwners t t
 keeps_all t = record { users = λ id there. there; mailboxes = λ id row found. subst (λ o. IsSomeAnd o (λ now. now.owner ≡ row.owner)) (sym found) refl }
 
 still_owned : (t after : TableRows) (new : Head) → KeepsOwners t after → IsOwnedAs t new → IsOwnedAs after new
@@ -35,7 +35,7 @@ still_owned t after new keeps owned =
     some_and (λ now. now.owner ≡ new.owner) (row_at mailbox_key (number_key new.id) t.heads.mailboxes) owned
     (λ row found owner. subst (λ o. IsSomeAnd (row_at mailbox_key (number_key new.id) after.heads.mailboxes) (λ now. now.owner ≡ o)) owner (keeps.mailboxes new.id row found))
 
-keeps_both : (t middle after : TableRows) → KeepsOwners t middle → KeepsOwners middle after → KeepsOwners t after
+pub keeps_both : (t middle after : TableRows) → KeepsOwners t middle → KeepsOwners middle after → KeepsOwners t after
 keeps_both t middle after first second = record {
   users = λ id there. second.users id (first.users id there);
   mailboxes = λ id row found.

@@ -105,7 +105,7 @@ any_with {X} {P} p Q (x ∷ xs) all e use_it = by (p x) refl e (λ h. any_with p
     by true s h rest = use_it x all.0 s
     by false s h rest = rest h
 
-any_named : (entries : List Entry) → Ascend (map (λ e. e.uid) entries) → (there : ℕ → Bool) → ((uid : ℕ) → there uid ≡ is_some (entry_at uid entries)) → (p : ℕ → Bool) (q : Entry → Bool)
+pub any_named : (entries : List Entry) → Ascend (map (λ e. e.uid) entries) → (there : ℕ → Bool) → ((uid : ℕ) → there uid ≡ is_some (entry_at uid entries)) → (p : ℕ → Bool) (q : Entry → Bool)
     → ((uid : ℕ) (e : Entry) → entry_at uid entries ≡ Some e → p uid ≡ q e) → (uids : List ℕ) → list_any (λ uid. there uid && p uid) uids ≡ list_any (λ e. is_among e.uid uids && q e) entries
 any_named entries ascend there are p q same uids =
     same_bool (list_any (λ uid. there uid && p uid) uids) (list_any (λ e. is_among e.uid uids && q e) entries)
@@ -302,7 +302,7 @@ looked {Z} ms id f same g k =
     by None = refl
     by (Some x) = refl
 
-map_same : {X : Type 0} (f : X → X) (xs : List X) → AllByRecursion (λ x. f x ≡ x) xs → map f xs ≡ xs
+pub map_same : {X : Type 0} (f : X → X) (xs : List X) → AllByRecursion (λ x. f x ≡ x) xs → map f xs ≡ xs
 map_same f [] all = refl
 map_same f (x ∷ xs) all = ap (λ y. y ∷ map f xs) all.0 ∙ ap (λ l. x ∷ l) (map_same f xs all.1)
 

@@ -9,4 +9,6 @@ pub mod MovingInbox
 pub mod Naming
 pub mod Arriving
 pub mod Storing
+pub mod Delivering
+pub mod Expunging
 pub mod Sameness

@@ -2,17 +2,21 @@
 //! standing for the world after a change.
 //!
 //! There is no code here but functions whose contracts are laws of the definitions, which stand in `specs/`: `Stands` says what tables
-//! stand for, `Refusals` why a change is not made as the tables tell it, `RowChanges`, `Naming`, `Arriving`, `Storing` and
-//! `MovingInbox` which rows make a change, `Leading` what they lead to, `Sameness` how far tables tell worlds apart.
+//! stand for, `Refusals` why a change is not made as the tables tell it, `RowChanges`, `Naming`, `Arriving`, `Storing`, `Delivering`,
+//! `Expunging` and `MovingInbox` which rows make a change, `Leading` what they lead to, `Sameness` how far tables tell worlds apart.
 #![tactic(auto)]
 
 mod arriving;
+mod delivering;
+mod expunging;
 mod laws;
 mod moving_inbox;
 mod renaming;
 mod storing;
 
 pub use arriving::{append, message_uids, names_grow};
+pub use delivering::deliver;
+pub use expunging::expunge;
 pub use laws::{
     add_user, create, delete, entry_rows, mailbox_rows, no_rows_stand, one_world, subscribe,
     take_recents, unsubscribe, user_rows,

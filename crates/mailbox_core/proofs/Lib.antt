@@ -35,3 +35,6 @@ pub mod PlannedNames
 pub mod StoredPlans
 pub mod StoredCalls
 pub mod MovedInbox
+pub mod Receiving
+pub mod Deliveries
+pub mod Expunges

@@ -5,7 +5,9 @@ pub mod Deleting
 pub mod Messages
 pub mod Rooms
 pub mod Appending
+pub mod Delivering
 pub mod Storing
+pub mod Expunging
 pub mod Summing
 pub mod SummaryRows
 pub mod Listing

@@ -36,7 +36,7 @@ pub(crate) const MOST_FLAGS: usize = 30;
 const MOST_MESSAGES: u64 = 100_000;
 
 // The last UID that a message may have.
-const LAST_UID: u32 = u32::MAX - 1;
+pub(crate) const LAST_UID: u32 = u32::MAX - 1;
 
 // The last mod-sequence.
 pub(crate) const LAST_MODSEQ: u64 = u64::MAX - 1;
@@ -109,7 +109,7 @@ pub(crate) fn has_message(tables: &Tables, mailbox: u32, uid: u32) -> bool
 
 // Whether a mailbox has as many messages as a mailbox may have.
 #[tactic(auto, using(crate::proofs::Counts::entries_most))]
-fn has_most_messages(tables: &Tables, mailbox: u32) -> bool
+pub(crate) fn has_most_messages(tables: &Tables, mailbox: u32) -> bool
     ensures { result ≡ nat_lt most_messages (message_count tables.now mailbox + 1) }
 {
     tables.entry_count(mailbox) >= MOST_MESSAGES

@@ -90,7 +90,7 @@ fn deletable(tables: &Tables, owner: u32, name: &[u8], held: &[u32]) -> Result<u
     Ok(row.id)
 }
 
-fn is_among(ids: &[u32], id: u32) -> bool
+pub(crate) fn is_among(ids: &[u32], id: u32) -> bool
     ensures { result ≡ is_among id ids.now }
 {
     ids.iter().any(|other| *other == id)

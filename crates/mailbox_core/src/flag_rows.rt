@@ -118,7 +118,7 @@ fn all_changes(
 }
 
 // The mailbox with the next mod-sequence.
-fn with_next_modseq(row: Mailbox) -> Mailbox
+pub(crate) fn with_next_modseq(row: Mailbox) -> Mailbox
     requires { row.highest < 18446744073709551615 }
     ensures { result ≡ with_next_modseq row }
 {

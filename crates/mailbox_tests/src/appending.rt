@@ -30,7 +30,11 @@ fn disk_with(alloc: Global, bytes: &[u8], fails: &[u64]) -> Result<MemoryDisk, F
 }
 
 // Files in memory, of which the log has these bytes and fails these calls.
-fn files_with(alloc: Global, log: &[u8], fails: &[u64]) -> Result<Files<MemoryDisk>, Fail> {
+pub(crate) fn files_with(
+    alloc: Global,
+    log: &[u8],
+    fails: &[u64],
+) -> Result<Files<MemoryDisk>, Fail> {
     Ok(Files {
         log0: disk_with(alloc, log, fails)?,
         log1: disk_with(alloc, b"", &[])?,
@@ -106,7 +110,7 @@ fn outcome_of(alloc: Global, log: &[u8], fails: &[u64]) -> Result<Outcome, Fail>
 }
 
 // A message whose body is `abc`.
-fn text() -> &'static [u8]
+pub(crate) fn text() -> &'static [u8]
     ensures { length result.now ≤ 2 ^ 27 }
 {
     b"\nabc"
@@ -134,7 +138,7 @@ fn append_abc(
 }
 
 // What a crash at a moment may leave.
-fn image(disk: &MemoryDisk, moment: u64, choice: &[u8]) -> Result<Vec<u8>, Fail> {
+pub(crate) fn image(disk: &MemoryDisk, moment: u64, choice: &[u8]) -> Result<Vec<u8>, Fail> {
     Ok(disk.image(moment, choice)?.ok_or("no such moment")?)
 }
 

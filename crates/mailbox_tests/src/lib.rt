@@ -3,3 +3,5 @@
 
 #[cfg(test)]
 mod appending;
+#[cfg(test)]
+mod delivering;
