@@ -1,8 +1,8 @@
 -- What a session awaits, as far as it came.
-use Rattle.std.specs.Prelude.{ℕ, Bool, false, List, [], ◌++◌}
+use Rattle.std.specs.Prelude.{ℕ, ◌<◌, Bool, false, List, [], ◌++◌}
 use Rattle.imap_lexer.specs.declared.units.Form.{Form}
 use Rattle.imap_lexer.specs.declared.units.Form.TheVariants as form
-use Rattle.imap_lexer.specs.Units.{shown, is_prompted as is_prompted_by}
+use Rattle.imap_lexer.specs.Units.{reading, shown, is_prompted as is_prompted_by}
 use Rattle.imap_lexer.specs.Lexer as lexer
 use Rattle.lmtp_core.specs.Reading.{Read, reads, unread}
 use Rattle.session_units.specs.declared.forms.Awaits.{Awaits}
@@ -44,6 +44,12 @@ abbrev pub is_prompting : Awaited → Bool
 is_prompting (Imap form bytes) = is_prompted_by (shown form bytes)
 is_prompting (Line bytes) = false
 is_prompting (Text read) = false
+
+-- A byte more takes memory: it is one of a literal, or of a text of LMTP.
+abbrev pub TakesMemory : Awaited → Type 0
+TakesMemory (Imap form bytes) = 0 < (reading form bytes).left
+TakesMemory (Line bytes) = ⊥
+TakesMemory (Text read) = Unit {0}
 
 -- what a reader holds whose source is one of its lexers
 abbrev pub held_by : Source → lexer.Awaited → List ℕ → Read → Awaited

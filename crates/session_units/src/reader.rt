@@ -3,7 +3,7 @@
 ghost use Rattle.std.specs.Prelude.{ℕ, ◌≡◌, ◌≤◌, ◌<◌, ◌∷◌, [], IfOk, OnOk, OnErr, None, eqb, get_or, length, take, true};
 ghost use Rattle.imap_lexer.specs.Lexer.{form_of};
 ghost use Rattle.session_units.specs.declared.forms.Awaits.TheVariants.{Command};
-ghost use Rattle.session_units.specs.Awaited.{Imap, Line, Text, awaits_of, begun, form_for, is_prompting, source_for, with_more};
+ghost use Rattle.session_units.specs.Awaited.{Imap, Line, TakesMemory, Text, awaits_of, begun, form_for, is_prompting, source_for, with_more};
 ghost use Rattle.session_units.specs.Units.{GoesOn, ended, ending, first, is_prompted, unit_of};
 
 use crate::forms::{Awaits, Fed, Shown, Source};
@@ -36,6 +36,7 @@ fn feed_imap(imap: &mut Lexer, byte: u8) -> Result<Fed, AllocError>
     ensures fed { OnOk result (Imap imap.new.form imap.new.bytes ≡ with_more (Imap imap.old.form imap.old.bytes) (byte ∷ [])) }
     ensures prompted { IfOk result (λ fed. is_prompted fed ≡ is_prompting (Imap imap.new.form imap.new.bytes)) }
     ensures cut { IfOk result (λ fed. first (Imap imap.old.form imap.old.bytes) (byte ∷ []) ≡ ended (ending fed) (Imap imap.new.form imap.new.bytes)) }
+    ensures refused { OnErr result (TakesMemory (Imap imap.old.form imap.old.bytes)) }
     ensures unchanged { OnErr result (imap.new ≡ imap.old) }
 {
     Ok(match imap.feed(byte)? {
@@ -69,6 +70,7 @@ fn feed_text(text: &mut TextLexer, byte: u8) -> Result<Fed, AllocError>
     ensures fed { OnOk result (Text text.new ≡ with_more (Text text.old) (byte ∷ [])) }
     ensures prompted { IfOk result (λ fed. is_prompted fed ≡ is_prompting (Text text.new)) }
     ensures cut { IfOk result (λ fed. first (Text text.old) (byte ∷ []) ≡ ended (ending fed) (Text text.new)) }
+    ensures refused { OnErr result (TakesMemory (Text text.old)) }
     ensures unchanged { OnErr result (text.new ≡ text.old) }
 {
     let _ = text.feed(&[byte])?;
@@ -99,6 +101,7 @@ fn feed_text_line(text: &mut TextLexer, piece: &[u8]) -> Result<usize, AllocErro
     ensures fed { IfOk result (λ n. Text text.new ≡ with_more (Text text.old) (take n piece.now)) }
     ensures each { IfOk result (λ n. GoesOn (Text text.old) (take n piece.now)) }
     ensures none { OnOk result (first (Text text.new) [] ≡ None) }
+    ensures refused { OnErr result (TakesMemory (Text text.old)) }
     ensures unchanged { OnErr result (text.new ≡ text.old) }
 {
     let end = line_len(piece);
@@ -113,6 +116,7 @@ fn feed_literal(imap: &mut Lexer, piece: &[u8]) -> Result<usize, AllocError>
     ensures fed { IfOk result (λ n. Imap imap.new.form imap.new.bytes ≡ with_more (Imap imap.old.form imap.old.bytes) (take n piece.now)) }
     ensures each { IfOk result (λ n. GoesOn (Imap imap.old.form imap.old.bytes) (take n piece.now)) }
     ensures none { OnOk result (first (Imap imap.new.form imap.new.bytes) [] ≡ None) }
+    ensures refused { OnErr result (TakesMemory (Imap imap.old.form imap.old.bytes)) }
     ensures unchanged { OnErr result (imap.new ≡ imap.old) }
 {
     let count = imap.feed_literal(piece)?;
@@ -175,6 +179,7 @@ impl Reader {
 
         // The unit is whole at its last byte, and not before.
         ensures cut { IfOk result (λ fed. first self.old (byte ∷ []) ≡ ended (ending fed) self.new) }
+        ensures refused { OnErr result (TakesMemory self.old) }
         ensures unchanged { OnErr result (self.new ≡ self.old) }
     {
         match self.source {
@@ -195,6 +200,7 @@ impl Reader {
         ensures fed { IfOk result (λ n. self.new ≡ with_more self.old (take n piece.now)) }
         ensures each { IfOk result (λ n. GoesOn self.old (take n piece.now)) }
         ensures none { first self.new [] ≡ None }
+        ensures refused { OnErr result (TakesMemory self.old) }
         ensures unchanged { OnErr result (self.new ≡ self.old) }
     {
         match self.source {
