@@ -10,7 +10,7 @@ use Rattle.port_model.specs.declared.events.Event.{Event}
 use Rattle.port_model.specs.Script.{script_events}
 use Rattle.mail_server.specs.declared.answer.Answer.{Answer}
 use Rattle.mail_server.specs.declared.status.Status.{Status}
-use Rattle.mail_server.specs.declared.status.Status.TheVariants.{Done, Usage, NoMemory, ReadFault, WriteFault, StoreFault, NotAStore, Refused, BadScript}
+use Rattle.mail_server.specs.declared.status.Status.TheVariants.{Done, Usage, NoMemory, ReadFault, WriteFault, StoreFault, NotAStore, Refused, BadScript, ListenFault}
 use Rattle.mail_server.specs.declared.words.Command.{Command}
 use Rattle.mail_server.specs.Commands.{meaning}
 use Rattle.mail_server.specs.Words.{Asked}
@@ -56,6 +56,7 @@ serves-fit told script lines files files' ReadFault ends = ends
 serves-fit told script lines files files' WriteFault ends = ends
 serves-fit told script lines files files' Refused ends = ends
 serves-fit told script lines files files' BadScript ends = tt
+serves-fit told script lines files files' ListenFault ends = ends
 
 end-fits : {D : Type 0} (told : Told D) (task : Task) (text : List ℕ) (now : ℕ) (files files' : Files D) (end : End) → EndsAs told task text now files files' end → Fits task end.status
 unfolding EndsAs
@@ -93,6 +94,7 @@ answers-end tells told Script NoMemory old new files files' a end f = absurd f
 answers-end tells told Script ReadFault old new files files' a end f = absurd f
 answers-end tells told Script WriteFault old new files files' a end f = absurd f
 answers-end tells told Script Refused old new files files' a end f = f
+answers-end tells told Script ListenFault old new files files' a end f = f
 answers-end tells told Canon Done old new files files' a end f = (a, end refl)
 answers-end tells told Canon Refused old new files files' a end f = a
 answers-end tells told Canon Usage old new files files' a end f = f
@@ -102,6 +104,7 @@ answers-end tells told Canon WriteFault old new files files' a end f = absurd f
 answers-end tells told Canon StoreFault old new files files' a end f = f
 answers-end tells told Canon NotAStore old new files files' a end f = f
 answers-end tells told Canon BadScript old new files files' a end f = f
+answers-end tells told Canon ListenFault old new files files' a end f = f
 
 stops-end : {S K C D : Type 0} (tells : Tells S K C) (told : Told D) (task : Task) (old new : Outside S K C) (files files' : Files D) → StopsAnswering tells told task old new files files'
     → Ends tells told task WriteFault old new files files'

@@ -25,7 +25,7 @@ use Rattle.mail_server.specs.declared.script.PlayFault.{PlayFault}
 use Rattle.mail_server.specs.declared.script.Played.{Played}
 use Rattle.mail_server.specs.declared.script.PlayFault.TheVariants.{StoreFault as PlayStoreFault, NoMemory as PlayNoMemory}
 use Rattle.mail_server.specs.declared.status.Status.{Status}
-use Rattle.mail_server.specs.declared.status.Status.TheVariants.{Done, Usage, NoMemory, ReadFault, WriteFault, StoreFault, NotAStore, Refused, BadScript}
+use Rattle.mail_server.specs.declared.status.Status.TheVariants.{Done, Usage, NoMemory, ReadFault, WriteFault, StoreFault, NotAStore, Refused, BadScript, ListenFault}
 use Rattle.mail_server.specs.declared.store_core.StoreCore.{StoreCore}
 use Rattle.mail_server.specs.OnScript.{HasPlayed, LeavesScript}
 use Rattle.mail_server.specs.Run.{End, ServesEnd, end_of, transcript_of}
@@ -40,14 +40,14 @@ use Rattle.mail_server.proofs.Crashing.{left_since}
 use Rattle.mail_server.proofs.Handed.{loaded_keeps, store_keeps, unloaded_keeps, unserved_keeps}
 
 -- what is shared before any session
-abbrev fresh : World → Shared
+abbrev pub fresh : World → Shared
 fresh first = record { world = first; parts = [] }
 
-serving : {D : Type 0} (told : Told D) (core : StoreCore D) (first : World) → core.sessions ≡ [] → IsSettled told core.store.files (stored_by in_row core.store.tables) → Stands in_row core.store.tables first
+pub serving : {D : Type 0} (told : Told D) (core : StoreCore D) (first : World) → core.sessions ≡ [] → IsSettled told core.store.files (stored_by in_row core.store.tables) → Stands in_row core.store.tables first
     → IsServing told core.store core.sessions (fresh first)
 serving told core first none settled stands = record { stands = stands; settled = settled; parts_are = none }
 
-some-rose : {D : Type 0} (told : Told D) (core core' : StoreCore D) → SomeRose ((core_seen told).faults core) ((core_seen told).faults core') → FaultRose told core.store.files core'.store.files
+pub some-rose : {D : Type 0} (told : Told D) (core core' : StoreCore D) → SomeRose ((core_seen told).faults core) ((core_seen told).faults core') → FaultRose told core.store.files core'.store.files
 unfolding core_seen
 some-rose told core core' (inl rose) = inl rose
 some-rose told core core' (inr (inl rose)) = inr (inl rose)
@@ -62,7 +62,7 @@ rest_of : List ℕ → List ℕ
 rest_of [] = []
 rest_of (count ∷ counts) = counts
 
-none-rose : {D : Type 0} (told : Told D) (core core' : StoreCore D) → (core_seen told).faults core' ≡ (core_seen told).faults core → CountsNoFault told core.store.files core'.store.files
+pub none-rose : {D : Type 0} (told : Told D) (core core' : StoreCore D) → (core_seen told).faults core' ≡ (core_seen told).faults core → CountsNoFault told core.store.files core'.store.files
 unfolding core_seen first_of rest_of
 none-rose told core core' same = (ap first_of same, ap (λ (counts : List ℕ). first_of (rest_of counts)) same, ap (λ (counts : List ℕ). first_of (rest_of (rest_of counts))) same)
 
@@ -168,6 +168,7 @@ files_served {D} {E} told script answer files old files' law loaded sure tells s
     by-status lines WriteFault ends = ends
     by-status lines Refused ends = ends
     by-status lines BadScript ends = ends
+    by-status lines ListenFault ends = ends
 
     by-answer : (answer : Result Answer E) → IfOk answer (λ answer. StoreEnd told script answer.lines.items old files' answer.status) → IfOk answer (λ answer. ServesEnd told script answer.lines.items files files' answer.status)
     by-answer (Err error) ends = tt

@@ -6,13 +6,16 @@ pub mod Progress
 pub mod Alone
 pub mod Playing
 pub mod Crashing
+pub mod Linking
 pub mod Starving
 pub mod Handed
 pub mod FromStore
+pub mod FromLinks
 pub mod FromSteps
 pub mod Transfers
 pub mod Readings
 pub mod WordLists
+pub mod Numbers
 pub mod Answering
 pub mod StoreFiles
 pub mod UserFiles

@@ -1,6 +1,6 @@
 -- What reads and writes one after another come to.
 use Rattle.std.proofs.Common.{◌≡◌, ℕ, ◌+◌, ◌-◌, ◌≤◌, List, [], ◌++◌, length, take, drop, refl, sym, ◌∙◌, ap, arith, append_assoc, subst, length-drop, length-take, length-append}
-use Rattle.std.specs.Prelude.{Option, Some, None, Result, Ok, Err, OnErr}
+use Rattle.std.specs.Prelude.{Option, Some, None, Result, Ok, Err, OnOk, OnErr}
 use Rattle.std.proofs.lemmas.List.{append-nil, take_all, take_min}
 use Rattle.std.proofs.Math.Seq.{take-add}
 use Rattle.port_model.specs.Streams.{Appends}
@@ -60,3 +60,12 @@ ReadsSome-none limit old = record { bytes = []; taken = HasRead-none old; within
 pub OnErr-always : {T E : Type 0} (result : Result T E) (P : Type 0) → P → OnErr result P
 OnErr-always (Ok value) P fact = tt
 OnErr-always (Err error) P fact = fact
+
+-- what one answer promises, by what another promised of it
+pub OnOk-from : {T E : Type 0} (result : Result T E) (P Q : Type 0) → (P → Q) → OnOk result P → OnOk result Q
+OnOk-from (Ok value) P Q step fact = step fact
+OnOk-from (Err error) P Q step fact = tt
+
+pub OnErr-from : {T E : Type 0} (result : Result T E) (P Q : Type 0) → (P → Q) → OnErr result P → OnErr result Q
+OnErr-from (Ok value) P Q step fact = tt
+OnErr-from (Err error) P Q step fact = step fact

@@ -270,6 +270,7 @@ user_added_to_files {D = D} written faults told status name password before afte
     by-status Status.Usage ends = ends
     by-status Status.ReadFault ends = ends
     by-status Status.BadScript ends = ends
+    by-status Status.ListenFault ends = ends
 
 -- Files could not be loaded, so no user is added.
 pub user_not_added : {K D : Type 0} (written : K → Option (List ℕ)) (faults : K → ℕ) (told : Told D) (old new : Files D) (fault : LoadFault) (status : Status) (name password : List ℕ) (sink : K)

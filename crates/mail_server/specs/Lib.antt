@@ -12,4 +12,9 @@ pub mod StoreCore
 pub mod Keeping
 pub mod Serving
 pub mod Users
+pub mod LinkHistories
+pub mod ServeWords
+pub mod Links
+pub mod LinkRounds
+pub mod FromLinks
 pub mod Does

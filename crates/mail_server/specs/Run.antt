@@ -16,7 +16,7 @@ use Rattle.mime_reader.specs.Wrapping.{mail}
 use Rattle.canon_writer.specs.Printing.{print}
 use Rattle.mail_server.specs.declared.answer.Answer.{Answer}
 use Rattle.mail_server.specs.declared.status.Status.{Status}
-use Rattle.mail_server.specs.declared.status.Status.TheVariants.{Done, Usage, NoMemory, ReadFault, WriteFault, StoreFault, NotAStore, Refused, BadScript}
+use Rattle.mail_server.specs.declared.status.Status.TheVariants.{Done, Usage, NoMemory, ReadFault, WriteFault, StoreFault, NotAStore, Refused, BadScript, ListenFault}
 use Rattle.mail_server.specs.declared.words.Task.{Task}
 use Rattle.mail_server.specs.declared.words.Task.TheVariants.{Script, Canon}
 use Rattle.mail_server.specs.Script.{script_machine}
@@ -34,6 +34,7 @@ code_of StoreFault = 6
 code_of NotAStore = 7
 code_of Refused = 8
 code_of BadScript = 9
+code_of ListenFault = 10
 
 -- How a run ends that nothing comes in between of, and all that it writes.
 pub record End : Type 0 where
@@ -73,6 +74,7 @@ ServesEnd told script lines files files' ReadFault = ⊥
 ServesEnd told script lines files files' WriteFault = ⊥
 ServesEnd told script lines files files' Refused = ⊥
 ServesEnd told script lines files files' BadScript = ⊥
+ServesEnd told script lines files files' ListenFault = ⊥
 
 abbrev pub EventsEnd : {D : Type 0} → Told D → Result (List Event) ℕ → Files D → Files D → End → Type 0
 EventsEnd told (Ok events) files files' end = ServesEnd told events end.lines files files' end.status

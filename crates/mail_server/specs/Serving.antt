@@ -10,7 +10,7 @@ use Rattle.mailbox_core.specs.Left.{Left}
 use Rattle.mail_rounds.specs.Crashes.{worlds_since}
 use Rattle.mail_server.specs.declared.answer.Answer.{Answer}
 use Rattle.mail_server.specs.declared.status.Status.{Status}
-use Rattle.mail_server.specs.declared.status.Status.TheVariants.{Done, Usage, NoMemory, ReadFault, WriteFault, StoreFault, NotAStore, Refused, BadScript}
+use Rattle.mail_server.specs.declared.status.Status.TheVariants.{Done, Usage, NoMemory, ReadFault, WriteFault, StoreFault, NotAStore, Refused, BadScript, ListenFault}
 use Rattle.mail_server.specs.Keeping.{FilesKeep, KeepsSent}
 use Rattle.mail_server.specs.Run.{IsPlayedOut, ServesEnd}
 use Rattle.mail_server.specs.Script.{script_machine}
@@ -36,6 +36,7 @@ StoreEnd told script lines store files' ReadFault = ⊥
 StoreEnd told script lines store files' WriteFault = ⊥
 StoreEnd told script lines store files' Refused = ⊥
 StoreEnd told script lines store files' BadScript = ⊥
+StoreEnd told script lines store files' ListenFault = ⊥
 
 -- and the same of it.
 pub record ServesStore {D E : Type 0} (told : Told D) (script : List Event) (answer : Result Answer E) (store : Store D) (files' : Files D) : Type 0 where

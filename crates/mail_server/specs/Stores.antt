@@ -11,7 +11,7 @@ use Rattle.row_store.specs.Holding.{Holds, HoldsNone, nothing_stored}
 use Rattle.row_store.specs.Crashes.{JointlyHolds}
 use Rattle.row_store.specs.Loading.{ReadsLogOnce}
 use Rattle.mail_server.specs.declared.status.Status.{Status}
-use Rattle.mail_server.specs.declared.status.Status.TheVariants.{Done, Usage, NoMemory, ReadFault, WriteFault, StoreFault, NotAStore, Refused, BadScript}
+use Rattle.mail_server.specs.declared.status.Status.TheVariants.{Done, Usage, NoMemory, ReadFault, WriteFault, StoreFault, NotAStore, Refused, BadScript, ListenFault}
 use Rattle.mail_server.specs.Outside.{WritesAll, StopsWriting}
 
 -- the files hold these tables, with some content of each body
@@ -44,6 +44,7 @@ InitEnds written faults told Usage old new files files' = ⊥
 InitEnds written faults told ReadFault old new files files' = ⊥
 InitEnds written faults told NotAStore old new files files' = ⊥
 InitEnds written faults told BadScript old new files files' = ⊥
+InitEnds written faults told ListenFault old new files files' = ⊥
 
 -- The word `init`: it makes an empty store in files that hold none.
 pub record MakesStore {K D : Type 0} (written : K → Option (List ℕ)) (faults : K → ℕ) (told : Told D) (status : Status) (old new : K) (files files' : Files D) : Type 0 where
@@ -70,6 +71,7 @@ TablesEnds written faults told Usage old new files files' = ⊥
 TablesEnds written faults told ReadFault old new files files' = ⊥
 TablesEnds written faults told Refused old new files files' = ⊥
 TablesEnds written faults told BadScript old new files files' = ⊥
+TablesEnds written faults told ListenFault old new files files' = ⊥
 
 -- The word `tables`: it lists the rows that the files hold.
 pub record ListsTables {K D : Type 0} (written : K → Option (List ℕ)) (faults : K → ℕ) (told : Told D) (status : Status) (old new : K) (files files' : Files D) : Type 0 where

@@ -12,7 +12,7 @@ use Rattle.mail_server.specs.WorldFiles.{LeavesChanges}
 use Rattle.mail_server.specs.Keeping.{KeepsText}
 use Rattle.mail_server.specs.Script.{script_machine}
 use Rattle.mail_server.specs.declared.status.Status.{Status}
-use Rattle.mail_server.specs.declared.status.Status.TheVariants.{Done, Usage, NoMemory, ReadFault, WriteFault, StoreFault, NotAStore, Refused, BadScript}
+use Rattle.mail_server.specs.declared.status.Status.TheVariants.{Done, Usage, NoMemory, ReadFault, WriteFault, StoreFault, NotAStore, Refused, BadScript, ListenFault}
 use Rattle.mail_server.specs.declared.words.Task.{Task}
 use Rattle.mail_server.specs.declared.words.Task.TheVariants.{Script, Canon}
 use Rattle.mail_server.specs.Outside.{Outside, Tells, WritesAll, StopsWriting}
@@ -72,6 +72,7 @@ ScriptEnds tells told ReadFault old new files files' = StopsReading tells old ne
 ScriptEnds tells told WriteFault old new files files' = StopsAnswering tells told Script old new files files'
 ScriptEnds tells told Usage old new files files' = ⊥
 ScriptEnds tells told Refused old new files files' = ⊥
+ScriptEnds tells told ListenFault old new files files' = ⊥
 
 -- the changes that what a text says makes from a world, the newest first; none where it is no script
 abbrev pub changes_in : Result (List Event) ℕ → World → List Made
@@ -103,6 +104,7 @@ CanonEnds tells told Usage old new files files' = ⊥
 CanonEnds tells told StoreFault old new files files' = ⊥
 CanonEnds tells told NotAStore old new files files' = ⊥
 CanonEnds tells told BadScript old new files files' = ⊥
+CanonEnds tells told ListenFault old new files files' = ⊥
 
 -- The word `canon`: it writes the canonical text of the message that its source has.
 pub record WritesCanonical {S K C D : Type 0} (tells : Tells S K C) (told : Told D) (status : Status) (old new : Outside S K C) (files files' : Files D) : Type 0 where

@@ -14,7 +14,7 @@ use Rattle.mail_world.specs.Looking.{verifier_of}
 use Rattle.mail_world.specs.Users.{with_user}
 use Rattle.mailbox_core.specs.Left.{HoldsWorld, Left}
 use Rattle.mail_server.specs.declared.status.Status.{Status}
-use Rattle.mail_server.specs.declared.status.Status.TheVariants.{Done, Usage, NoMemory, ReadFault, WriteFault, StoreFault, NotAStore, Refused, BadScript}
+use Rattle.mail_server.specs.declared.status.Status.TheVariants.{Done, Usage, NoMemory, ReadFault, WriteFault, StoreFault, NotAStore, Refused, BadScript, ListenFault}
 use Rattle.mail_server.specs.Outside.{WritesAll, StopsWriting}
 use Rattle.mail_server.specs.WorldFiles.{IfWorld, SettledFor, IfStands}
 
@@ -71,6 +71,7 @@ AdduserEnds written faults told NotAStore name password old new files files' = I
 AdduserEnds written faults told Usage name password old new files files' = ⊥
 AdduserEnds written faults told ReadFault name password old new files files' = ⊥
 AdduserEnds written faults told BadScript name password old new files files' = ⊥
+AdduserEnds written faults told ListenFault name password old new files files' = ⊥
 
 -- The word `adduser`: it adds a user with a name and a password to the store that the files hold.
 pub record AddsUser {K D : Type 0} (written : K → Option (List ℕ)) (faults : K → ℕ) (told : Told D) (status : Status) (name password : List ℕ) (old new : K) (files files' : Files D) : Type 0 where
@@ -95,6 +96,7 @@ AddsEnds written faults told NotAStore name password old new store store' = ⊥
 AddsEnds written faults told Usage name password old new store store' = ⊥
 AddsEnds written faults told ReadFault name password old new store store' = ⊥
 AddsEnds written faults told BadScript name password old new store store' = ⊥
+AddsEnds written faults told ListenFault name password old new store store' = ⊥
 
 pub record AddsTo {K D : Type 0} (written : K → Option (List ℕ)) (faults : K → ℕ) (told : Told D) (status : Status) (name password : List ℕ) (old new : K) (store store' : Store D) : Type 0 where
   pub ends : AddsEnds written faults told status name password old new store store'

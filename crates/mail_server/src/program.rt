@@ -4,6 +4,7 @@ ghost use Rattle.std.specs.Prelude.{◌≡◌, ◌<◌, map, string_bytes, lengt
 ghost use Rattle.row_store.specs.ThreeFiles.{CountsNoFault};
 ghost use Rattle.mail_server.specs.declared.status.Status.TheVariants.{Done, NoMemory};
 ghost use Rattle.mail_server.specs.Does.{EndsRun};
+ghost use Rattle.mail_server.specs.Links.{RunsLinks};
 ghost use Rattle.mail_server.specs.Outside.{EndsWriting, outside, tells_of};
 ghost use Rattle.mail_server.specs.Run.{AnswersAt, limit_of};
 ghost use Rattle.mail_server.specs.declared.words.Task.TheVariants.{Canon};
@@ -13,6 +14,7 @@ ghost use Rattle.mail_server.specs.Words.{asked_by};
 use crate::answer::{Answer, end_with};
 use crate::canonical::answer_message;
 use crate::scripted::answer_script;
+use crate::serving_links::serve_links_from_files;
 use crate::status::Status;
 use crate::stores::{list_tables, make_store};
 use crate::streams::{ReadFailure, read_all};
@@ -41,9 +43,13 @@ use std::alloc::{AllocError, Global};
 ///
 /// `tables` writes a line for each row that the store's files hold, tables by their numbers and rows by their keys.
 ///
+/// `serve` with a number of rounds and of two ports loads the store that the files hold, and serves the sessions of the links that
+/// come by `ports` from it, in exactly so many rounds. The rounds are 1 to 1,000,000,000,000, and the ports, which the caller has bound
+/// (`serve_ports`), 1 to 65,535. What the last round answers stays unsent.
+///
 /// The status is 0 where the run is done, 2 where the words are none of these, 3 where memory was refused, 4 where the source
 /// failed, 5 where the sink failed, 6 where a disk failed, 7 where the files hold no store, 8 where what is asked for is refused,
-/// and 9 where the script is bad.
+/// 9 where the script is bad, and 10 where listening failed.
 ///
 /// Time and memory are in proportion to the text, which is held whole, or to the first log.
 pub fn run<S: Source, K: Sink, D: Disk, P: Ports, C: Clock>(
@@ -59,8 +65,8 @@ pub fn run<S: Source, K: Sink, D: Disk, P: Ports, C: Clock>(
     ensures does { EndsRun (tells_of S.left S.faults K.written K.faults C.readings) D.told (asked_by (map (λ word. string_bytes word) words.now)) result.0
         (outside source.old sink.old clock.old) (outside source.new sink.new clock.new) files result.1 }
 
-    // No word uses the links.
-    ensures ports { ports.new ≡ ports.old }
+    // No word but `serve` uses the links.
+    ensures links { RunsLinks P.history P.listen_faults D.told (asked_by (map (λ word. string_bytes word) words.now)) result.0 ports.old ports.new files result.1 }
 {
     let Some(command) = read_words(words) else {
         return (Status::Usage.code(), files);
@@ -80,6 +86,10 @@ pub fn run<S: Source, K: Sink, D: Disk, P: Ports, C: Clock>(
         }
         Command::AddUser(name, password) => {
             let (status, files) = add_user_to_files(alloc, name, password, sink, files);
+            (status.code(), files)
+        }
+        Command::Serve(serve) => {
+            let (status, files) = serve_links_from_files(alloc, serve.rounds, ports, files);
             (status.code(), files)
         }
     }

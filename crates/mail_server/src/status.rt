@@ -24,6 +24,8 @@ pub(crate) enum Status {
     Refused,
     /// The script has a bad line or is too long.
     BadScript,
+    /// Listening for links failed.
+    ListenFault,
 }
 
 impl Status {
@@ -41,6 +43,7 @@ impl Status {
             Status::NotAStore => 7,
             Status::Refused => 8,
             Status::BadScript => 9,
+            Status::ListenFault => 10,
         }
     }
 }

@@ -6,6 +6,8 @@ ghost use Rattle.mail_server.specs.Commands.{meaning};
 ghost use Rattle.mail_server.specs.Words.{asked_by, asked_by_three, asked_by_word};
 ghost use Rattle.mail_server.specs.Run.{limit_of};
 
+use crate::serve_numbers::ServeWords;
+use crate::serve_words::read_four;
 use crate::{canonical, scripted};
 
 /// What the words ask for, which what is borrowed belongs to.
@@ -19,6 +21,8 @@ pub(crate) enum Command<'a> {
     Tables,
     /// To add a user with a name and a password.
     AddUser(&'a [u8], &'a [u8]),
+    /// To serve the sessions of links.
+    Serve(ServeWords),
 }
 
 /// What is done with a text.
@@ -59,6 +63,7 @@ fn read_three<'a>(word: &[u8], name: &'a [u8], password: &'a [u8]) -> Option<Com
 }
 
 /// Reads the words; none where they are outside the grammar.
+#[tactic(auto, using(crate::proofs::WordLists::no_words, crate::proofs::WordLists::two_words, crate::proofs::WordLists::many_words))]
 pub(crate) fn read_words(words: &[String]) -> Option<Command<'_>>
     ensures { option_map meaning result ≡ asked_by (map (λ word. string_bytes word) words.now) }
 {
@@ -67,6 +72,12 @@ pub(crate) fn read_words(words: &[String]) -> Option<Command<'_>>
         [word, name, password] => {
             read_three(word.as_bytes(), name.as_bytes(), password.as_bytes())
         }
+        [word, rounds, imap, lmtp] => read_four(
+            word.as_bytes(),
+            rounds.as_bytes(),
+            imap.as_bytes(),
+            lmtp.as_bytes(),
+        ),
         _ => None,
     }
 }

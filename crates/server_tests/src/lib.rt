@@ -7,3 +7,5 @@ mod crash_tests;
 mod mail_server_tests;
 #[cfg(test)]
 mod port_model_tests;
+#[cfg(test)]
+mod serve_tests;

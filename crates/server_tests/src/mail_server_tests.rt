@@ -459,7 +459,11 @@ fn disk(alloc: Global, bytes: &[u8], fails: &[u64]) -> Result<MemoryDisk, AllocE
 }
 
 /// The files of a store whose first log has these bytes, and whose calls of these numbers fail.
-fn files_of(alloc: Global, log: &[u8], fails: &[u64]) -> Result<Files<MemoryDisk>, AllocError> {
+pub(crate) fn files_of(
+    alloc: Global,
+    log: &[u8],
+    fails: &[u64],
+) -> Result<Files<MemoryDisk>, AllocError> {
     Ok(Files {
         log0: disk(alloc, log, fails)?,
         log1: no_disk(alloc)?,
@@ -504,7 +508,7 @@ fn last_image(alloc: Global, disk: &MemoryDisk) -> Result<Vec<u8>, AllocError> {
     Ok(last)
 }
 
-const EMPTY_STORE: &[u8] = b"\x01MAILROW\0\0\0\0\0\0\0\0\x01\0";
+pub(crate) const EMPTY_STORE: &[u8] = b"\x01MAILROW\0\0\0\0\0\0\0\0\x01\0";
 
 #[test]
 fn a_store_is_made_once_and_listed(rt: HostRuntime) -> Result<(), Fail> {
