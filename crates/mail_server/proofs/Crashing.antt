@@ -51,14 +51,14 @@ pub on_partway : (first : World) (script : List Event) (calls : List PortCall) (
 on_partway first script calls left whole = let grown = runs-grow left (after first calls) in (grown.0, ap (λ (m : Machine). m.changes) (sym whole) ∙ grown.1)
 
 -- The laws that these take: those of the worlds since one, and that of the machine's world.
-abbrev First : Type 0
+abbrev pub First : Type 0
 First = (world : World) (made : List Made) (earlier : List World) → (older : List World) × (worlds_since world made earlier ≡ folded world made ∷ older)
 
-abbrev More : Type 0
+abbrev pub More : Type 0
 More = (world : World) (newer made : List Made) (earlier older : List World) → worlds_since world made earlier ≡ folded world made ∷ older
     → worlds_since (folded world made) newer older ≡ worlds_since world (newer ++ made) earlier
 
-abbrev Folds : Type 0
+abbrev pub Folds : Type 0
 Folds = (world : World) (events : List PortEvent) → (machine world events).shared.world ≡ folded world (machine world events).changes
 
 -- Before any call nothing is made.

@@ -10,39 +10,40 @@ use Rattle.imap_steps.specs.Stepping.{World}
 use Rattle.mail_model.specs.declared.standing.Standing.{Standing}
 use Rattle.mail_model.specs.declared.standing.Standing.TheVariants.{Open, Closing}
 use Rattle.mail_model.specs.Machine.{machine, after}
+use Rattle.mail_model.specs.HandedOut.{SendsAnswered}
 use Rattle.mail_rounds.specs.Calls.{AcceptsBelow, Asks, AsksIdle, Due, Flushes, GoesOn, ReadsOnce, Takes, TakesPart, clocked, dues, is_lost, read_room}
 use Rattle.mail_rounds.specs.CoreSeen.{CoreSeen}
 use Rattle.mail_rounds.specs.Held.{Held, queue_of}
-use Rattle.mail_rounds.specs.Serves.{Answered, Begins, Does, Serves}
-use Rattle.mail_server.specs.LinkHistories.{KeepsSent, MakesRounds, SendsAnswers}
+use Rattle.mail_rounds.specs.Serves.{Answered, Serves}
+use Rattle.mail_rounds.specs.Served.{ServesAll, ServesPart}
+use Rattle.mail_server.specs.LinkHistories.{KeepsOnLinks, MakesRounds}
 use Rattle.mail_server.specs.LinkRounds.{HasServed, LeavesNow, MadeAll, MadeBy, MadeSome, StoppedBy}
 use Rattle.mail_server.specs.OnScript.{LeavesMade}
 use Rattle.mail_server.proofs.Crashing.{First, More, Folds, leaves_none, leaves_on}
 
--- More calls, by which nothing is sent.
+-- More calls.
 
 abbrev Grows : List PortCall → List PortCall → Type 0
-Grows before later = (more : List PortCall) × (later ≡ more ++ before) × ((number : ℕ) → sent later number ≡ sent before number)
+Grows before later = (more : List PortCall) × (later ≡ more ++ before)
 
 grows-same : (before later : List PortCall) → later ≡ before → Grows before later
-grows-same before later is = ([], is, λ number. ap (λ (calls : List PortCall). sent calls number) is)
+grows-same before later is = ([], is)
 
 grows-then : (before mid later : List PortCall) → Grows before mid → Grows mid later → Grows before later
 grows-then before mid later one two = (
   two.0 ++ one.0,
   two.1 ∙ ap (λ (calls : List PortCall). two.0 ++ calls) one.1 ∙ sym (append_assoc two.0 one.0 before),
-  λ number. two.2 number ∙ one.2 number,
 )
 
 accepts-grow : (last_number : Bool) (last : ℕ) (before later : List PortCall) → AcceptsBelow last_number last before later → Grows before later
 accepts-grow true last before later is = grows-same before later is
-accepts-grow false last before later is = (Accept (last + 1) is.0 ∷ [], is.1, λ number. ap (λ (calls : List PortCall). sent calls number) is.1)
+accepts-grow false last before later is = (Accept (last + 1) is.0 ∷ [], is.1)
 
 reads-grow : (number : ℕ) (answer : ReadAnswer) (reading : ℕ) (before later : List PortCall) → later ≡ clocked answer reading (Read number read_room answer ∷ before) → Grows before later
-reads-grow number (Gave bytes) reading before later is = (Now reading ∷ Read number read_room (Gave bytes) ∷ [], is, λ who. ap (λ (calls : List PortCall). sent calls who) is)
-reads-grow number Quiet reading before later is = (Read number read_room Quiet ∷ [], is, λ who. ap (λ (calls : List PortCall). sent calls who) is)
-reads-grow number HasEnded reading before later is = (Read number read_room HasEnded ∷ [], is, λ who. ap (λ (calls : List PortCall). sent calls who) is)
-reads-grow number WasLost reading before later is = (Read number read_room WasLost ∷ [], is, λ who. ap (λ (calls : List PortCall). sent calls who) is)
+reads-grow number (Gave bytes) reading before later is = (Now reading ∷ Read number read_room (Gave bytes) ∷ [], is)
+reads-grow number Quiet reading before later is = (Read number read_room Quiet ∷ [], is)
+reads-grow number HasEnded reading before later is = (Read number read_room HasEnded ∷ [], is)
+reads-grow number WasLost reading before later is = (Read number read_room WasLost ∷ [], is)
 
 asks-grow : (standing : Standing) (number : ℕ) (unsent : List ℕ) (before later : List PortCall) → AsksIdle standing number unsent before later → Grows before later
 asks-grow Open number [] before later is = reads-grow number is.0 is.1 before later is.2
@@ -86,21 +87,17 @@ answered-front : (lost : Bool) (sent_bytes queue out : List ℕ) → Answered lo
 answered-front true sent_bytes queue out a = (a.front refl).1
 answered-front false sent_bytes queue out a = (queue, sym (a.whole refl))
 
-pub serves_front : {C : Type 0} (seen : CoreSeen C) (first : World) (calls : List PortCall) (held : Held C) → Serves seen first calls held → SendsAnswers first calls calls
+pub serves_front : {C : Type 0} (seen : CoreSeen C) (first : World) (calls : List PortCall) (held : Held C) → Serves seen first calls held → SendsAnswered first calls calls
 serves_front seen first calls held serves number =
     answered-front (is_lost number (events calls)) (sent calls number) (queue_of number held.links) ((after first calls).out number) (serves.answered number)
 
-sends-later : (first : World) (before later : List PortCall) → SendsAnswers first before before → Grows before later → SendsAnswers first before later
-sends-later first before later sends grows number =
-    ((sends number).0, (sends number).1 ∙ ap (λ (bytes : List ℕ). bytes ++ (sends number).0) (sym (grows.2 number)))
-
-longer-front : OnlyGrow → (first : World) (before later : List PortCall) → SendsAnswers first before before → Grows before later → SendsAnswers first later later
+longer-front : OnlyGrow → (first : World) (before later : List PortCall) → SendsAnswered first before later → Grows before later → SendsAnswered first later later
 longer-front law first before later sends grows number =
     let longer = subst (λ (calls : List PortCall). Longer ((after first before).out number) ((after first calls).out number)) (sym grows.1) (calls-longer law first grows.0 before number) in
-    longer-then (sent later number) ((after first before).out number) ((after first later).out number) (sends-later first before later sends grows number) longer
+    longer-then (sent later number) ((after first before).out number) ((after first later).out number) (sends number) longer
 
 -- What a core that stands for what the sessions share keeps.
-pub keeps_all : {C : Type 0} (seen : CoreSeen C) (first : World) (calls : List PortCall) (held : Held C) → Serves seen first calls held → KeepsSent first calls (LeavesNow seen held.core)
+pub keeps_all : {C : Type 0} (seen : CoreSeen C) (first : World) (calls : List PortCall) (held : Held C) → Serves seen first calls held → KeepsOnLinks first calls (LeavesNow seen held.core)
 keeps_all seen first calls held serves = record {
   earlier = calls;
   answered = serves_front seen first calls held serves;
@@ -112,7 +109,7 @@ keeps_all seen first calls held serves = record {
 -- A round, and a part of one.
 
 pub round_made : {C : Type 0} (seen : CoreSeen C) (old mid new : Held C) (before between later : List PortCall → Type 0) → First → More → Folds
-    → GoesOn (Does seen Flushes old mid) before between → GoesOn (Does seen Takes mid new) between later → GoesOn (MadeBy seen old new) before later
+    → GoesOn (ServesAll seen Flushes old mid) before between → GoesOn (ServesAll seen Takes mid new) between later → GoesOn (MadeBy seen old new) before later
 round_made seen old mid new before between later law_first law_more law_folds flushes takes history may_be =
     let flushed = flushes history may_be in
     let taken = takes flushed.0 flushed.1 in (
@@ -131,7 +128,7 @@ round_made seen old mid new before between later law_first law_more law_folds fl
     )
 
 pub round_stopped : {C : Type 0} (seen : CoreSeen C) (old mid new : Held C) (before between later : List PortCall → Type 0) → First → More → Folds → OnlyGrow
-    → GoesOn (Does seen Flushes old mid) before between → GoesOn (Begins seen TakesPart mid new) between later → GoesOn (StoppedBy seen old new) before later
+    → GoesOn (ServesAll seen Flushes old mid) before between → GoesOn (ServesPart seen TakesPart mid new) between later → GoesOn (StoppedBy seen old new) before later
 round_stopped seen old mid new before between later law_first law_more law_folds law_grow flushes takes history may_be =
     let flushed = flushes history may_be in
     let taken = takes flushed.0 flushed.1 in (
@@ -140,14 +137,12 @@ round_stopped seen old mid new before between later law_first law_more law_folds
       λ first serves.
           let one = flushed.2 first serves in
           let two = taken.2 first one.1 in
-          let grows = takes-grow first flushed.0 taken.0 two.calls in
-          let sends = serves_front seen first flushed.0 mid one.1 in
           record {
             part = record { flushed = flushed.0; flushes = one.0.calls; takes = two.calls };
-            front = longer-front law_grow first flushed.0 taken.0 sends grows;
+            front = longer-front law_grow first flushed.0 taken.0 two.sends (takes-grow first flushed.0 taken.0 two.calls);
             kept = record {
               earlier = flushed.0;
-              answered = sends-later first flushed.0 taken.0 sends grows;
+              answered = two.sends;
               since = two.crash.made;
               changes_are = two.crash.changes_are;
               left = (mid.core, two.crash.left (seen.moments mid.core) [] (seen.now mid.core (after first flushed.0).shared one.1.stands));
@@ -190,7 +185,7 @@ all_served seen first rounds calls old new all = (
 )
 
 -- Before any call nothing is sent.
-pub sends_none : (first : World) → SendsAnswers first [] []
+pub sends_none : (first : World) → SendsAnswered first [] []
 unfolding machine
 sends_none first number = ([], refl)
 

@@ -9,12 +9,13 @@ use Rattle.row_store.specs.ThreeFiles.{FaultRose, CountsNoFault, LogMoments}
 use Rattle.row_store.specs.Kept.{Store}
 use Rattle.mailbox_core.specs.Left.{Left}
 use Rattle.mail_model.specs.Machine.{after}
+use Rattle.mail_model.specs.HandedOut.{SendsAnswered}
 use Rattle.mail_rounds.specs.declared.rounds.RoundFault.{RoundFault}
 use Rattle.mail_rounds.specs.declared.rounds.RoundFault.TheVariants.{StoreFault as RoundStoreFault, ListenFault as RoundListenFault, NoMemory as RoundNoMemory}
 use Rattle.mail_rounds.specs.Crashes.{worlds_since}
 use Rattle.mail_server.specs.declared.status.Status.{Status}
 use Rattle.mail_server.specs.declared.status.Status.TheVariants.{Done, Usage, NoMemory, ReadFault, WriteFault, StoreFault, NotAStore, Refused, BadScript, ListenFault}
-use Rattle.mail_server.specs.LinkHistories.{KeepsSent, OnLinks, SendsAnswers}
+use Rattle.mail_server.specs.LinkHistories.{KeepsOnLinks, OnLinks}
 use Rattle.mail_server.specs.Links.{RoundsTo}
 use Rattle.mail_server.specs.WorldFiles.{IfStands}
 
@@ -31,8 +32,8 @@ LeavesOfFiles told files worlds = (now : LogMoments) × Left told files now worl
 
 -- What they came to, from the world that the store stands for.
 pub record ServesFromStore {D : Type 0} (told : Told D) (first : World) (calls : List PortCall) (store : Store D) (files' : Files D) : Type 0 where
-  pub front : SendsAnswers first calls calls
-  pub kept : KeepsSent first calls (LeavesOfFiles told files')
+  pub front : SendsAnswered first calls calls
+  pub kept : KeepsOnLinks first calls (LeavesOfFiles told files')
   pub leaves : (since : LogMoments) (earlier : List World) → Left told store.files since (first ∷ earlier) → Left told files' since (worlds_since first (after first calls).changes earlier)
 
 -- How it ends,

@@ -1,9 +1,9 @@
 -- Histories of links that are served in rounds.
 use Rattle.std.specs.Prelude.{ℕ, ◌≡◌, ◌<◌, ◌⊎◌, zero, suc, List, [], ◌++◌}
 use Rattle.port_model.specs.declared.calls.PortCall.{PortCall}
-use Rattle.port_model.specs.History.{sent}
 use Rattle.imap_steps.specs.Stepping.{World}
 use Rattle.mail_model.specs.Machine.{Made, after}
+use Rattle.mail_model.specs.HandedOut.{SendsAnswered}
 use Rattle.mail_rounds.specs.Calls.{Rounds, RoundsPart}
 use Rattle.mail_rounds.specs.Crashes.{worlds_since}
 
@@ -20,15 +20,11 @@ pub record StopsRounds (first : World) (rounds : ℕ) (calls : List PortCall) : 
   pub made : MakesRounds first turns before
   pub part : (calls ≡ before) ⊎ RoundsPart first before calls
 
--- By the end of a history each number was sent a front of what the machine had answered it by the end of an earlier one.
-abbrev pub SendsAnswers : World → List PortCall → List PortCall → Type 0
-SendsAnswers first earlier calls = (number : ℕ) → (rest : List ℕ) × ((after first earlier).out number ≡ sent calls number ++ rest)
-
 -- All that was sent answers what had come by the end of an earlier history, and the changes that were made by then are all kept: a
 -- crash leaves the world after these and some of those that were made since.
-pub record KeepsSent (first : World) (calls : List PortCall) (LeavesOne : List World → Type 0) : Type 0 where
+pub record KeepsOnLinks (first : World) (calls : List PortCall) (LeavesOne : List World → Type 0) : Type 0 where
   pub earlier : List PortCall
-  pub answered : SendsAnswers first earlier calls
+  pub answered : SendsAnswered first earlier calls
   pub since : List Made
   pub changes_are : (after first calls).changes ≡ since ++ (after first earlier).changes
   pub left : LeavesOne (worlds_since (after first earlier).shared.world since [])

@@ -3,11 +3,12 @@ use Rattle.std.specs.Prelude.{ℕ, List}
 use Rattle.port_model.specs.declared.calls.PortCall.{PortCall}
 use Rattle.imap_steps.specs.Stepping.{World}
 use Rattle.mail_model.specs.Machine.{after}
+use Rattle.mail_model.specs.HandedOut.{SendsAnswered}
 use Rattle.mail_rounds.specs.Calls.{Rounds, RoundsPart}
 use Rattle.mail_rounds.specs.CoreSeen.{CoreSeen}
 use Rattle.mail_rounds.specs.Held.{Held}
 use Rattle.mail_rounds.specs.Serves.{Serves}
-use Rattle.mail_server.specs.LinkHistories.{KeepsSent, MakesRounds, SendsAnswers, StopsRounds}
+use Rattle.mail_server.specs.LinkHistories.{KeepsOnLinks, MakesRounds, StopsRounds}
 use Rattle.mail_server.specs.OnScript.{LeavesMade}
 
 -- A crash now leaves one of these worlds.
@@ -22,8 +23,8 @@ LeavesOn {C} seen old new first before later =
 -- What the sessions of links came to whose history this is: each was sent a front of what it is answered, nothing of that is lost by a
 -- crash, and since earlier moments a crash leaves some of the changes.
 pub record HasServed {C : Type 0} (seen : CoreSeen C) (first : World) (calls : List PortCall) (old new : C) : Type 0 where
-  pub front : SendsAnswers first calls calls
-  pub kept : KeepsSent first calls (LeavesNow seen new)
+  pub front : SendsAnswered first calls calls
+  pub kept : KeepsOnLinks first calls (LeavesNow seen new)
   pub leaves : LeavesMade seen old new first (after first calls).changes
 
 -- A round was made.
@@ -35,8 +36,8 @@ pub record MakesRound {C : Type 0} (seen : CoreSeen C) (first : World) (old new 
 -- A round was ended by a fault.
 pub record StopsRound {C : Type 0} (seen : CoreSeen C) (first : World) (old new : Held C) (before later : List PortCall) : Type 0 where
   pub part : RoundsPart first before later
-  pub front : SendsAnswers first later later
-  pub kept : KeepsSent first later (LeavesNow seen new.core)
+  pub front : SendsAnswered first later later
+  pub kept : KeepsOnLinks first later (LeavesNow seen new.core)
   pub leaves : LeavesOn seen old.core new.core first before later
 
 -- Where the server held what the machine had.

@@ -9,10 +9,11 @@ use Rattle.row_store.specs.ThreeFiles.{IfRead, FaultRose, CountsNoFault, LogMome
 use Rattle.row_store.specs.Holding.{HoldsNone}
 use Rattle.mailbox_core.specs.Left.{HoldsWorld, Left}
 use Rattle.mail_model.specs.Machine.{after}
+use Rattle.mail_model.specs.HandedOut.{SendsAnswered}
 use Rattle.mail_rounds.specs.Crashes.{worlds_since}
 use Rattle.mail_server.specs.declared.status.Status.{Status}
 use Rattle.mail_server.specs.declared.status.Status.TheVariants.{Done, Usage, NoMemory, ReadFault, WriteFault, StoreFault, NotAStore, Refused, BadScript, ListenFault}
-use Rattle.mail_server.specs.LinkHistories.{KeepsSent, MakesRounds, OnLinks, SendsAnswers, StopsRounds}
+use Rattle.mail_server.specs.LinkHistories.{KeepsOnLinks, MakesRounds, OnLinks, StopsRounds}
 use Rattle.mail_server.specs.Run.{code_of}
 use Rattle.mail_server.specs.Stores.{HoldsSome}
 use Rattle.mail_server.specs.Words.{Asked, OfText, Init, Tables, AddUser, Serve}
@@ -25,9 +26,9 @@ LeavesOneOf told files files' first worlds = (since : LogMoments) → Left told 
 -- What the sessions of links came to whose history this is, from the world that the files stand for.
 pub record ServesFrom {D : Type 0} (told : Told D) (first : World) (calls : List PortCall) (files files' : Files D) : Type 0 where
   -- Each was sent a front of what the machine answers it,
-  pub front : SendsAnswers first calls calls
+  pub front : SendsAnswered first calls calls
   -- nothing that was sent is lost by a crash,
-  pub kept : KeepsSent first calls (LeavesOneOf told files files' first)
+  pub kept : KeepsOnLinks first calls (LeavesOneOf told files files' first)
   -- and of each moment since an earlier one a crash leaves the world after some of the changes, or, where a run began earlier, one of
   -- before.
   pub leaves : (since : LogMoments) (earlier : List World) → Left told files since (first ∷ earlier) → Left told files' since (worlds_since first (after first calls).changes earlier)
