@@ -1,5 +1,5 @@
 -- What it comes to that the sessions of links are served from a store.
-use Rattle.std.proofs.Common.{ℕ, ◌≡◌, ◌<◌, List, [], ◌∷◌, refl, sym, ◌∙◌, subst, inl}
+use Rattle.std.proofs.Common.{ℕ, ◌≡◌, ◌<◌, List, [], ◌∷◌, refl, sym, subst, inl}
 use Rattle.std.specs.Prelude.{Option, Some, None, Result, Ok, Err, OnOk, OnErr}
 use Rattle.std.specs.Option.{option_map}
 use Rattle.fault_counts.specs.Rose.{Rose}
@@ -8,14 +8,14 @@ use Rattle.disk_model.specs.declared.disk.Files.{Files}
 use Rattle.port_model.specs.declared.calls.PortCall.{PortCall}
 use Rattle.row_store.specs.declared.faults.LoadFault.{LoadFault}
 use Rattle.row_store.specs.declared.faults.LoadFault.TheVariants.{Failed as LoadFailed, NotAStore as LoadNotAStore, NoMemory as LoadNoMemory}
-use Rattle.row_store.specs.ThreeFiles.{FileBytes, CountsNoFault, LogMoments, MakesAllSure, TellsFaults, moments}
+use Rattle.row_store.specs.ThreeFiles.{FileBytes, CountsNoFault, MakesAllSure, TellsFaults, moments}
 use Rattle.row_store.specs.Holding.{Holds, HoldsNone, in_row, stored_by}
 use Rattle.row_store.specs.Crashes.{IsSettled}
 use Rattle.row_store.specs.Kept.{Store}
 use Rattle.row_store.specs.Loading.{IsNoStore}
 use Rattle.imap_steps.specs.Stepping.{World}
 use Rattle.mail_stands.specs.Stands.{Stands}
-use Rattle.mailbox_core.specs.Left.{HoldsWorld, Left}
+use Rattle.mailbox_core.specs.Left.{HoldsWorld}
 use Rattle.mail_model.specs.Machine.{after, machine}
 use Rattle.mail_rounds.specs.declared.rounds.RoundFault.{RoundFault}
 use Rattle.mail_rounds.specs.declared.rounds.RoundFault.TheVariants.{StoreFault as RoundStoreFault, ListenFault as RoundListenFault, NoMemory as RoundNoMemory}
@@ -30,12 +30,12 @@ use Rattle.mail_server.specs.LinkHistories.{MakesRounds, OnLinks, StopsRounds}
 use Rattle.mail_server.specs.LinkRounds.{HasServed, MadeSome}
 use Rattle.mail_server.specs.Links.{RoundsTo, RunsLinks, ServeEnds, ServesFrom, ServesLinks}
 use Rattle.mail_server.specs.Run.{code_of}
-use Rattle.mail_server.specs.StoreCore.{IsServing, core_seen, serving_left}
+use Rattle.mail_server.specs.StoreCore.{core_seen, serving_left}
 use Rattle.mail_server.specs.Stores.{HoldsSome}
 use Rattle.mail_server.specs.Words.{Asked}
 use Rattle.mail_server.specs.WorldFiles.{SettledFor}
 use Rattle.mail_server.proofs.FromStore.{fresh, none-rose, serving, some-rose}
-use Rattle.mail_server.proofs.Linking.{sends_none}
+use Rattle.mail_server.proofs.Linking.{none_handed, sends_none}
 use Rattle.mail_server.proofs.StoreFiles.{always-read, counts-both, fault-later, read-before}
 use Rattle.mail_server.proofs.UserFiles.{LeaveTheSame, LoadedStand, left-sure, standing}
 
@@ -45,11 +45,9 @@ unfolding core_seen
 store-served told first calls core core' served = record {
   front = served.front;
   kept = record {
-    earlier = served.kept.earlier;
-    answered = served.kept.answered;
-    since = served.kept.since;
-    changes_are = served.kept.changes_are;
+    worlds = served.kept.worlds;
     left = (moments told served.kept.left.0.store.files, served.kept.left.1);
+    each = served.kept.each;
   };
   leaves = λ since earlier left. served.leaves (since.log0 ∷ since.log1 ∷ []) earlier left;
 }
@@ -129,11 +127,9 @@ store_unlinked history listening told rounds ports store some settled = record {
       record {
         front = sends_none first;
         kept = record {
-          earlier = [];
-          answered = sends_none first;
-          since = [];
-          changes_are = refl;
+          worlds = first ∷ [];
           left = (moments told store.files, serving_left told store [] (fresh first) (record { stands = stands; settled = settled; parts_are = refl }));
+          each = (none_handed first, tt);
         };
         leaves = λ since earlier left. left;
       },
@@ -166,7 +162,7 @@ files_linked history listening told rounds status before later files old files' 
     from-store : (first : World) (calls : List PortCall) → ServesFromStore told first calls old files' → ServesFrom told first calls files files'
     from-store first calls it = record {
       front = it.front;
-      kept = record { earlier = it.kept.earlier; answered = it.kept.answered; since = it.kept.since; changes_are = it.kept.changes_are; left = λ since left. it.kept.left };
+      kept = record { worlds = it.kept.worlds; left = λ since left. it.kept.left; each = it.kept.each };
       leaves = λ since earlier left. it.leaves since earlier (left-sure told files old.files since (first ∷ earlier) law sure left);
     }
 
@@ -178,7 +174,11 @@ files_linked history listening told rounds status before later files old files' 
     )
     by-status NoMemory ends = (counts-both told files old.files files' quiet ends.0, ends.1)
     by-status StoreFault ends = (fault-later told files old.files files' tells.disks ends.0, ends.1)
-    by-status ListenFault ends = (ends.0, counts-both told files old.files files' quiet ends.1)
+    by-status ListenFault ends = (
+      read-before told files old.files Held HoldsSome sure (λ bytes holds. (old.tables, ((stored_by in_row old.tables).contents, holds))) settled.holds,
+      ends.0,
+      counts-both told files old.files files' quiet ends.1,
+    )
     by-status NotAStore ends = absurd ends
     by-status Usage ends = ends
     by-status ReadFault ends = ends
@@ -200,7 +200,7 @@ files_unlinked history listening told rounds status ports old new fault some law
     unserved : (first : World) → ServesFrom told first [] old new
     unserved first = record {
       front = sends_none first;
-      kept = record { earlier = []; answered = sends_none first; since = []; changes_are = refl; left = λ since left. (since, left-sure told old new since (first ∷ []) law sure left) };
+      kept = record { worlds = first ∷ []; left = λ since left. (since, left-sure told old new since (first ∷ []) law sure left); each = (none_handed first, tt) };
       leaves = λ since earlier left. left-sure told old new since (first ∷ earlier) law sure left;
     }
 

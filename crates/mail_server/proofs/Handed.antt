@@ -1,5 +1,5 @@
 -- A crash keeps what was handed out while a script is played.
-use Rattle.std.proofs.Common.{ℕ, ◌≡◌, ◌≤◌, List, [], ◌∷◌, Option, Some, None, false, length, refl, sym, ◌∙◌, subst, inl, inr, ◌⊎◌, arith}
+use Rattle.std.proofs.Common.{ℕ, ◌≡◌, List, [], ◌∷◌, Option, Some, None, false, length, refl, ◌∙◌, subst, inl, inr, ◌⊎◌, arith}
 use Rattle.std.specs.Prelude.{Result, Ok, Err, IfOk}
 use Rattle.disk_model.specs.Told.{Told, IfTold}
 use Rattle.disk_model.specs.declared.disk.Files.{Files}
@@ -12,10 +12,9 @@ use Rattle.std.proofs.lemmas.Option.{same_Some}
 use Rattle.row_store.specs.ThreeFiles.{FileBytes, IsLeftSince, LogMoments, MakesAllSure, moments}
 use Rattle.row_store.specs.Crashes.{HoldsOne, IsSettled, LeavesStates}
 use Rattle.row_store.specs.ThreeFiles.{IsJointImage}
-use Rattle.row_store.specs.Holding.{Holds, Stored, in_row, stored_by}
+use Rattle.row_store.specs.Holding.{Holds, in_row, stored_by}
 use Rattle.row_store.specs.Kept.{Store}
 use Rattle.imap_steps.specs.Stepping.{World}
-use Rattle.mail_stands.specs.Stands.{Stands}
 use Rattle.mailbox_core.specs.Left.{HoldsWorld, Left}
 use Rattle.mail_model.specs.Machine.{machine}
 use Rattle.mail_model.specs.HandedOut.{HasHandedOut}
@@ -23,7 +22,7 @@ use Rattle.mail_rounds.specs.CoreSeen.{CoreSeen}
 use Rattle.mail_rounds.specs.Calls.{Flushes, GoesOn, Rounds, RoundsPart, dues}
 use Rattle.mail_rounds.specs.Held.{Held}
 use Rattle.mail_rounds.specs.Serves.{Serves}
-use Rattle.mail_rounds.specs.Served.{Served, ServesAll, ServesPart}
+use Rattle.mail_rounds.specs.Served.{ServesAll, ServesPart}
 use Rattle.mail_server.specs.declared.store_core.StoreCore.{StoreCore}
 use Rattle.mail_server.specs.Keeping.{FilesKeep, KeepsScript, KeepsSent, KeepsText, PlaysSome}
 use Rattle.mail_server.specs.OnScript.{IsOnScript}

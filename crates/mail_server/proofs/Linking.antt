@@ -1,5 +1,5 @@
 -- Rounds on links whose answers may be any.
-use Rattle.std.proofs.Common.{ℕ, zero, suc, ◌+◌, ◌-◌, ◌^◌, ◌<◌, nat_eq, Bool, true, false, List, [], ◌∷◌, ◌++◌, ◌≡◌, refl, ap, sym, ◌∙◌, subst, inl, inr, append-nil, append_assoc, length, take, arith}
+use Rattle.std.proofs.Common.{ℕ, suc, ◌+◌, ◌-◌, ◌^◌, ◌<◌, nat_eq, Bool, true, false, List, [], ◌∷◌, ◌++◌, ◌≡◌, refl, ap, sym, ◌∙◌, subst, inl, inr, append-nil, append_assoc, take, arith}
 use Rattle.port_model.specs.declared.calls.PortCall.{PortCall}
 use Rattle.port_model.specs.declared.calls.PortCall.TheVariants.{Accept, Read, Now}
 use Rattle.port_model.specs.declared.calls.ReadAnswer.{ReadAnswer}
@@ -10,8 +10,8 @@ use Rattle.imap_steps.specs.Stepping.{World}
 use Rattle.mail_model.specs.declared.standing.Standing.{Standing}
 use Rattle.mail_model.specs.declared.standing.Standing.TheVariants.{Open, Closing}
 use Rattle.mail_model.specs.Machine.{machine, after}
-use Rattle.mail_model.specs.HandedOut.{SendsAnswered}
-use Rattle.mail_rounds.specs.Calls.{AcceptsBelow, Asks, AsksIdle, Due, Flushes, GoesOn, ReadsOnce, Takes, TakesPart, clocked, dues, is_lost, read_room}
+use Rattle.mail_model.specs.HandedOut.{HasHandedOut, SendsAnswered}
+use Rattle.mail_rounds.specs.Calls.{AcceptsBelow, Asks, AsksIdle, Due, Flushes, GoesOn, Takes, TakesPart, clocked, dues, is_lost, read_room}
 use Rattle.mail_rounds.specs.CoreSeen.{CoreSeen}
 use Rattle.mail_rounds.specs.Held.{Held, queue_of}
 use Rattle.mail_rounds.specs.Serves.{Answered, Serves}
@@ -96,15 +96,13 @@ longer-front law first before later sends grows number =
     let longer = subst (λ (calls : List PortCall). Longer ((after first before).out number) ((after first calls).out number)) (sym grows.1) (calls-longer law first grows.0 before number) in
     longer-then (sent later number) ((after first before).out number) ((after first later).out number) (sends number) longer
 
--- What a core that stands for what the sessions share keeps.
-pub keeps_all : {C : Type 0} (seen : CoreSeen C) (first : World) (calls : List PortCall) (held : Held C) → Serves seen first calls held → KeepsOnLinks first calls (LeavesNow seen held.core)
-keeps_all seen first calls held serves = record {
-  earlier = calls;
-  answered = serves_front seen first calls held serves;
-  since = [];
-  changes_are = refl;
-  left = (held.core, seen.now held.core (after first calls).shared serves.stands);
-}
+-- Before any call nothing is handed out.
+pub none_handed : (first : World) → HasHandedOut first [] first
+unfolding machine
+none_handed first = record { missing = []; prefix = []; changes_are = refl; world_is = refl; none = tt }
+
+none_kept : {C : Type 0} (seen : CoreSeen C) (first : World) (core : C) → seen.stands core (record { world = first; parts = [] }) → KeepsOnLinks first [] (LeavesNow seen core)
+none_kept seen first core stands = record { worlds = first ∷ []; left = (core, seen.now core (record { world = first; parts = [] }) stands); each = (none_handed first, tt) }
 
 -- A round, and a part of one.
 
@@ -121,6 +119,7 @@ round_made seen old mid new before between later law_first law_more law_folds fl
           record {
             rounds = record { flushed = flushed.0; flushes = one.0.calls; takes = two.0.calls };
             serves = two.1;
+            kept = record { worlds = two.0.keeps.worlds; left = (mid.core, two.0.keeps.left); each = two.0.keeps.each };
             leaves = λ began so_far.
                 leaves_on seen began mid.core new.core first flushed.0 taken.0 law_first law_more law_folds
                 (leaves_on seen began old.core mid.core first history flushed.0 law_first law_more law_folds so_far one.0.crash) two.0.crash;
@@ -140,13 +139,7 @@ round_stopped seen old mid new before between later law_first law_more law_folds
           record {
             part = record { flushed = flushed.0; flushes = one.0.calls; takes = two.calls };
             front = longer-front law_grow first flushed.0 taken.0 two.sends (takes-grow first flushed.0 taken.0 two.calls);
-            kept = record {
-              earlier = flushed.0;
-              answered = two.sends;
-              since = two.crash.made;
-              changes_are = two.crash.changes_are;
-              left = (mid.core, two.crash.left (seen.moments mid.core) [] (seen.now mid.core (after first flushed.0).shared one.1.stands));
-            };
+            kept = record { worlds = two.keeps.worlds; left = (mid.core, two.keeps.left); each = two.keeps.each };
             leaves = λ began so_far.
                 leaves_on seen began mid.core new.core first flushed.0 taken.0 law_first law_more law_folds
                 (leaves_on seen began old.core mid.core first history flushed.0 law_first law_more law_folds so_far one.0.crash) two.crash;
@@ -156,7 +149,8 @@ round_stopped seen old mid new before between later law_first law_more law_folds
 -- Rounds after rounds.
 
 pub rounds_none : {C : Type 0} (seen : CoreSeen C) (first : World) (held : Held C) → LeavesMade seen held.core held.core first (after first []).changes → Serves seen first [] held → MadeAll seen first 0 [] held held
-rounds_none seen first held leaves serves = record { made = refl; serves = serves; leaves = leaves }
+unfolding machine
+rounds_none seen first held leaves serves = record { made = refl; serves = serves; kept = none_kept seen first held.core serves.stands; leaves = leaves }
 
 pub rounds_more : {C : Type 0} (seen : CoreSeen C) (first : World) (turns : ℕ) (began old new : Held C) (before later : List PortCall) → MadeAll seen first turns before began old → MadeBy seen old new before later
     → MadeAll seen first (turns + 1) later began new
@@ -164,7 +158,7 @@ rounds_more seen first turns began old new before later so_far by =
     let round = by first so_far.serves in
     let more : turns + 1 ≡ suc turns = omega arith in
     subst (λ (n : ℕ). MadeAll seen first n later began new) (sym more)
-    (record { made = (before, so_far.made, round.rounds); serves = round.serves; leaves = round.leaves began.core so_far.leaves })
+    (record { made = (before, so_far.made, round.rounds); serves = round.serves; kept = round.kept; leaves = round.leaves began.core so_far.leaves })
 
 pub rounds_stop : {C : Type 0} (seen : CoreSeen C) (first : World) (turns rounds : ℕ) (began old new : Held C) (before later : List PortCall) → turns < rounds → MadeAll seen first turns before began old → StoppedBy seen old new before later
     → MadeSome seen first rounds later began.core new.core
@@ -181,7 +175,7 @@ pub all_served : {C : Type 0} (seen : CoreSeen C) (first : World) (rounds : ℕ)
 all_served seen first rounds calls old new all = (
   all.made,
   all.serves.stands,
-  record { front = serves_front seen first calls new all.serves; kept = keeps_all seen first calls new all.serves; leaves = all.leaves },
+  record { front = serves_front seen first calls new all.serves; kept = all.kept; leaves = all.leaves },
 )
 
 -- Before any call nothing is sent.
@@ -196,7 +190,7 @@ none_served seen first rounds core some stands = record {
   stops = record { turns = 0; fewer = some; before = []; made = refl; part = inl refl };
   served = record {
     front = sends_none first;
-    kept = record { earlier = []; answered = sends_none first; since = []; changes_are = refl; left = (core, seen.now core (record { world = first; parts = [] }) stands) };
+    kept = none_kept seen first core stands;
     leaves = leaves_none seen core first;
   };
 }

@@ -1,5 +1,5 @@
 -- What it comes to that the sessions of links are served from a store that was loaded.
-use Rattle.std.specs.Prelude.{ℕ, ◌≡◌, List, [], ◌∷◌, Result, Ok, Err}
+use Rattle.std.specs.Prelude.{ℕ, ◌≡◌, List, ◌∷◌, Result, Ok, Err}
 use Rattle.fault_counts.specs.Rose.{Rose}
 use Rattle.disk_model.specs.Told.{Told}
 use Rattle.disk_model.specs.declared.disk.Files.{Files}

@@ -26,8 +26,8 @@ pub record PlaysSome (first : World) (script : List Event) (calls : List PortCal
   pub then : (calls ≡ before) ⊎ RoundsPart first before calls ⊎ Flushes first before calls
   pub answered : IsPlayedUntil (plan_of script) calls
 
--- A script was served from a world as far as these calls went. What a crash leaves of the core, now or at a moment since the last
--- of the rounds began, stands for the world after a prefix of the changes, which has every change that was handed out.
+-- A script was served from a world as far as these calls went. What a crash leaves of the core, now or at a moment since an
+-- earlier one, stands for the world after a prefix of the changes, which has every change that was handed out.
 pub record KeepsScript {C : Type 0} (seen : CoreSeen C) (core : C) (first : World) (script : List Event) : Type 0 where
   pub calls : List PortCall
   pub plays : PlaysSome first script calls

@@ -20,8 +20,8 @@ abbrev pub LeavesOn : {C : Type 0} → CoreSeen C → C → C → World → List
 LeavesOn {C} seen old new first before later =
     (began : C) → LeavesMade seen began old first (after first before).changes → LeavesMade seen began new first (after first later).changes
 
--- What the sessions of links came to whose history this is: each was sent a front of what it is answered, nothing of that is lost by a
--- crash, and since earlier moments a crash leaves some of the changes.
+-- What the sessions of links came to whose history this is: each was sent a front of what it is answered, a crash keeps every change
+-- that was handed out, and since earlier moments a crash leaves some of the changes.
 pub record HasServed {C : Type 0} (seen : CoreSeen C) (first : World) (calls : List PortCall) (old new : C) : Type 0 where
   pub front : SendsAnswered first calls calls
   pub kept : KeepsOnLinks first calls (LeavesNow seen new)
@@ -31,6 +31,7 @@ pub record HasServed {C : Type 0} (seen : CoreSeen C) (first : World) (calls : L
 pub record MakesRound {C : Type 0} (seen : CoreSeen C) (first : World) (old new : Held C) (before later : List PortCall) : Type 0 where
   pub rounds : Rounds first before later
   pub serves : Serves seen first later new
+  pub kept : KeepsOnLinks first later (LeavesNow seen new.core)
   pub leaves : LeavesOn seen old.core new.core first before later
 
 -- A round was ended by a fault.
@@ -51,6 +52,7 @@ StoppedBy seen old new before later = (first : World) → Serves seen first befo
 pub record MadeAll {C : Type 0} (seen : CoreSeen C) (first : World) (rounds : ℕ) (calls : List PortCall) (old new : Held C) : Type 0 where
   pub made : MakesRounds first rounds calls
   pub serves : Serves seen first calls new
+  pub kept : KeepsOnLinks first calls (LeavesNow seen new.core)
   pub leaves : LeavesMade seen old.core new.core first (after first calls).changes
 
 -- Fewer were made.

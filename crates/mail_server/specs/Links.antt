@@ -27,7 +27,7 @@ LeavesOneOf told files files' first worlds = (since : LogMoments) → Left told 
 pub record ServesFrom {D : Type 0} (told : Told D) (first : World) (calls : List PortCall) (files files' : Files D) : Type 0 where
   -- Each was sent a front of what the machine answers it,
   pub front : SendsAnswered first calls calls
-  -- nothing that was sent is lost by a crash,
+  -- a crash now keeps every change that was handed out,
   pub kept : KeepsOnLinks first calls (LeavesOneOf told files files' first)
   -- and of each moment since an earlier one a crash leaves the world after some of the changes, or, where a run began earlier, one of
   -- before.
@@ -53,7 +53,7 @@ ServeEnds listening told Done old new files files' = IfRead told files HoldsSome
 ServeEnds listening told NoMemory old new files files' = CountsNoFault told files files' × (listening new ≡ listening old)
 ServeEnds listening told StoreFault old new files files' = FaultRose told files files' × (listening new ≡ listening old)
 ServeEnds listening told NotAStore old new files files' = IfRead told files HoldsNone × MakesAllSure told files files' × CountsNoFault told files files' × (new ≡ old)
-ServeEnds listening told ListenFault old new files files' = Rose (listening old) (listening new) × CountsNoFault told files files'
+ServeEnds listening told ListenFault old new files files' = IfRead told files HoldsSome × Rose (listening old) (listening new) × CountsNoFault told files files'
 ServeEnds listening told Usage old new files files' = ⊥
 ServeEnds listening told ReadFault old new files files' = ⊥
 ServeEnds listening told WriteFault old new files files' = ⊥

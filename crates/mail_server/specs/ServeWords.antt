@@ -1,5 +1,5 @@
 -- The ports in the words of `serve`.
-use Rattle.std.specs.Prelude.{List, Option, Some, None}
+use Rattle.std.specs.Prelude.{Option, Some, None}
 use Rattle.mail_server.specs.declared.serve_numbers.ServePorts.{ServePorts}
 use Rattle.mail_server.specs.Words.{Asked, OfText, Init, Tables, AddUser, Serve}
 

@@ -1,4 +1,3 @@
-use Rattle.std.specs.Prelude.{OnErr, OnOk}
 use Rattle.mail_rounds.specs.Held.{held}
 use Rattle.mail_server.proofs.Linking.{round_made, round_stopped}
 use Rattle.mail_server.proofs.Transfers.{OnErr-from, OnOk-from}

@@ -1,5 +1,4 @@
-use Rattle.std.proofs.Common.{ℕ, ◌≡◌, ◌∙◌, [], refl, sym, subst, arith}
-use Rattle.fault_counts.specs.Rose.{Rose}
+use Rattle.std.proofs.Common.{ℕ, ◌≡◌, ◌∙◌, [], refl, subst, arith}
 use Rattle.mail_rounds.specs.Held.{held}
 use Rattle.mail_server.specs.LinkRounds.{MadeAll}
 use Rattle.mail_server.proofs.Crashing.{leaves_none}

@@ -2,7 +2,6 @@ use Rattle.std.proofs.Common.{sym, subst}
 use Rattle.disk_model.specs.declared.disk.Files.{Files}
 use Rattle.mail_server.specs.FromLinks.{ServesLinksFrom}
 use Rattle.mail_server.specs.declared.status.Status.{Status}
-use Rattle.mail_server.specs.FromLinks.{end_of_rounds}
 use Rattle.mail_server.proofs.FromStore.{is_ready}
 use Rattle.mail_server.proofs.FromLinks.{served_by}
 use Rattle.mail_server.proofs.serving_links.serve_links_by.Goals as goal
