@@ -4,6 +4,7 @@ use Rattle.std.specs.List.{list_all, list_any}
 use Rattle.std.specs.Option.{option_map}
 use Rattle.imap_grammar.specs.declared.flags.Flag.{Flag}
 use Rattle.imap_grammar.specs.declared.flags.FlagChange.{FlagChange}
+use Rattle.imap_grammar.specs.declared.items.FetchItem.{FetchItem}
 use Rattle.imap_grammar.specs.declared.items.StatusItem.{StatusItem}
 use Rattle.imap_grammar.specs.declared.selecting.Resync.{Resync}
 use Rattle.imap_writer.specs.declared.refusals.Refusal.TheVariants.{ReadOnly, Syntax}
@@ -13,9 +14,10 @@ use Rattle.session_view.specs.Resolving.{resolved}
 use Rattle.imap_steps.specs.Stepping.{Shared, refused_with}
 use Rattle.imap_steps.specs.Appending.{is_fit_flag}
 use Rattle.imap_steps.specs.Storing.{store, stored}
+use Rattle.imap_steps.specs.Fetching.{fetch}
 use Rattle.imap_steps.specs.Selecting.{select}
 use Rattle.imap_steps.specs.Status.{is_highest, status}
-use Rattle.imap_steps.specs.Executing.{of_user, select_plainly, status_plainly, unserved}
+use Rattle.imap_steps.specs.Executing.{fetch_plainly, is_plain_fetch, of_selection, of_user, select_plainly, status_plainly, unserved}
 use Rattle.imap_exec.specs.Users.{is_plain}
 
 module _ (shared : Shared) (number : ℕ) (tag : List ℕ) (state : State) (name : List ℕ) (examine : Bool) where
@@ -57,3 +59,13 @@ module _ (shared : Shared) (tag : List ℕ) (selection : Selection) (by_uid : Bo
       → store shared tag selection by_uid ranges how silent flags ≡ stored shared tag selection by_uid (resolved selection.view.uids ranges by_uid) how silent flags
   unfolding store
   store_selected e f = rw (e, f) refl
+
+-- ---- FETCH
+
+module _ (shared : Shared) (tag : List ℕ) (state : State) (by_uid : Bool) (ranges : List (Option ℕ × Option ℕ)) (items : List FetchItem) (since : Option ℕ) (vanished : Bool) where
+  pub fetch_served : is_plain_fetch items since vanished ≡ true
+      → fetch_plainly shared tag state by_uid ranges items since vanished ≡ of_selection shared tag state (λ selection. fetch shared tag selection by_uid ranges items)
+  fetch_served e = rw e refl
+
+  pub fetch_unserved : is_plain_fetch items since vanished ≡ false → fetch_plainly shared tag state by_uid ranges items since vanished ≡ unserved shared tag
+  fetch_unserved e = rw e refl

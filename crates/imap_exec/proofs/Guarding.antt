@@ -1,5 +1,5 @@
 -- Commands by the state of their session.
-use Rattle.std.proofs.Common.{◌≡◌, ℕ, Bool, true, false, List, Some, None, Result, Ok, Err, codes, refl, sym, ap, subst, ◌∙◌}
+use Rattle.std.proofs.Common.{◌≡◌, ℕ, true, false, List, Some, None, Result, Ok, Err, codes, refl, sym, ap, subst}
 use Rattle.std.specs.Str.{str_eq_ignore_ascii_case}
 use Rattle.disk_model.specs.Told.{Told}
 use Rattle.row_store.specs.Kept.{Store}

@@ -2,6 +2,7 @@ pub mod Living
 pub mod Guarding
 pub mod Saying
 pub mod Making
+pub mod UnseenAmong
 pub mod Unserved
 pub mod Welcoming
 pub mod Choosing
@@ -14,3 +15,6 @@ pub mod Listing
 pub mod NamedOnce
 pub mod Stored
 pub mod StoreLines
+pub mod FetchLines
+pub mod FetchReading
+mod FetchServed

@@ -7,7 +7,7 @@ use Rattle.imap_writer.specs.Lines.{list_line}
 use Rattle.imap_writer.specs.Tagged.{ok_line}
 use Rattle.row_store.specs.declared.faults.StoreFault.{StoreFault}
 use Rattle.imap_steps.specs.declared.outcome.Outcome.{Outcome}
-use Rattle.imap_steps.specs.Stepping.{Shared, answered, completed}
+use Rattle.imap_steps.specs.Stepping.{Shared, completed}
 use Rattle.imap_steps.specs.Listing.{list, list_lines, list_name, told_names}
 use Rattle.mail_world.specs.Listing.{names_of}
 use Rattle.imap_exec.specs.Answers.{Says}

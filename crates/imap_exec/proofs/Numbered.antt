@@ -1,5 +1,5 @@
 -- The numbers of a mailbox as they are told.
-use Rattle.std.proofs.Common.{◌≡◌, ◌++◌, ◌||◌, ℕ, Bool, true, false, cond, List, [], ◌∷◌, map, codes, Option, Some, refl, sym, ap, ◌∙◌}
+use Rattle.std.proofs.Common.{◌≡◌, ◌++◌, ℕ, Bool, true, cond, List, [], ◌∷◌, map, codes, Option, Some, refl, sym, ap, ◌∙◌}
 use Rattle.std.specs.List.{list_any, count_by}
 use Rattle.std.proofs.lemmas.Bool.{or_left, or_right}
 use Rattle.imap_grammar.specs.declared.items.StatusItem.{StatusItem}

@@ -1,6 +1,6 @@
 -- What is told of messages whose flags are stored.
-use Rattle.std.proofs.Common.{◌≡◌, ℕ, suc, ◌+◌, ◌<◌, ◌&&◌, ◌||◌, ◌==◌, Bool, true, false, cond, not, List, [], ◌∷◌, ◌++◌, length, get_or, take, codes, Option, Some, None, is_some, refl, sym, ap, subst, ◌∙◌}
-use Rattle.std.specs.List.{find, flat_map, list_any}
+use Rattle.std.proofs.Common.{◌≡◌, ℕ, ◌+◌, ◌<◌, ◌==◌, Bool, true, false, cond, not, List, [], ◌∷◌, ◌++◌, length, get_or, take, codes, Option, Some, None, is_some, refl, sym, ap, ◌∙◌}
+use Rattle.std.specs.List.{flat_map, list_any}
 use Rattle.std.specs.Option.{option_and_then, option_map}
 use Rattle.std.proofs.lemmas.Bool.{eqb-true}
 use Rattle.std.proofs.lemmas.Grind.{flat_map-append}
@@ -11,8 +11,7 @@ use Rattle.row_tables.specs.Keys.{mailbox_message_key, uid_key}
 use Rattle.row_tables.specs.declared.marks.MailboxMessage.{MailboxMessage}
 use Rattle.row_store.specs.Holding.{Stored}
 use Rattle.imap_grammar.specs.declared.flags.Flag.{Flag}
-use Rattle.imap_writer.specs.declared.refusals.Refusal.TheVariants.{ExpungeIssued}
-use Rattle.imap_writer.specs.Tagged.{no_line, ok_line}
+use Rattle.imap_writer.specs.Tagged.{ok_line}
 use Rattle.session_view.specs.declared.sessions.Selection.{Selection}
 use Rattle.session_view.specs.declared.view.View.{View}
 use Rattle.mail_world.specs.Worlds.{Entry, Mailbox, entry_at, mailbox_at}

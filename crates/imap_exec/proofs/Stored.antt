@@ -1,12 +1,10 @@
 -- Flags that are stored, and what is told of them.
-use Rattle.std.proofs.Common.{◌≡◌, ◌++◌, ℕ, Bool, true, false, List, Option, Some, None, Result, Ok, Err, IsOk, IsErrOf, MatchResult, refl, sym, ap, subst, ◌∙◌}
+use Rattle.std.proofs.Common.{◌≡◌, ◌++◌, ℕ, Bool, List, Option, Some, None, Result, Err, IsOk, IsErrOf, MatchResult, refl, sym, subst}
 use Rattle.std.proofs.lemmas.Bool.{false≢true}
 use Rattle.disk_model.specs.Told.{Told}
 use Rattle.row_store.specs.Holding.{in_row}
 use Rattle.row_store.specs.Kept.{Store}
 use Rattle.row_store.specs.declared.faults.StoreFault.{StoreFault}
-use Rattle.imap_grammar.specs.declared.flags.Flag.{Flag}
-use Rattle.imap_grammar.specs.declared.flags.FlagChange.{FlagChange}
 use Rattle.session_view.specs.declared.sessions.SessionPart.{SessionPart}
 use Rattle.session_view.specs.declared.sessions.Selection.{Selection}
 use Rattle.mail_world.specs.Worlds.{World}
@@ -15,7 +13,7 @@ use Rattle.mail_world.specs.Applying.{apply, refused}
 use Rattle.mail_stands.specs.Stands.{Stands}
 use Rattle.mailbox_core.specs.declared.faults.MailFault.{MailFault}
 use Rattle.mailbox_core.specs.Faults.{fault_of, IsOutage}
-use Rattle.mailbox_core.specs.Calls.{Behaves, IsMade, IsRefused, Makes, MakesUnless}
+use Rattle.mailbox_core.specs.Calls.{Behaves, IsMade, Makes, MakesUnless}
 use Rattle.imap_steps.specs.declared.outcome.Outcome.{Outcome}
 use Rattle.imap_steps.specs.Stepping.{Shared, Stepped, answered, applied, made, unless_refused}
 use Rattle.imap_steps.specs.Storing.{some_gone, stored_unless}

@@ -4,6 +4,7 @@ use Rattle.date_grammar.specs.declared.parts.Stamp.{Stamp}
 use Rattle.imap_grammar.specs.declared.flags.Flag.{Flag}
 use Rattle.imap_grammar.specs.declared.flags.FlagChange.{FlagChange}
 use Rattle.imap_grammar.specs.declared.sets.SeqSet.{SeqSet}
+use Rattle.imap_grammar.specs.declared.items.FetchItem.{FetchItem}
 use Rattle.imap_grammar.specs.declared.items.StatusItem.{StatusItem}
 use Rattle.imap_grammar.specs.declared.selecting.Resync.{Resync}
 use Rattle.imap_grammar.specs.declared.commands.Command.{Command}
@@ -30,6 +31,7 @@ pub record IsOther (command : Command) : Type 0 where
   pub select : (name : List ℕ) (examine condstore : Bool) (resync : Option Resync) → command ≡ Select name examine condstore resync → ⊥
   pub append : (name : List ℕ) (flags : List Flag) (stamp : Option Stamp) (text : List ℕ) → command ≡ Append name flags stamp text → ⊥
   pub store : (by_uid : Bool) (set : SeqSet) (unchanged_since : Option ℕ) (how : FlagChange) (silent : Bool) (flags : List Flag) → command ≡ Store by_uid set unchanged_since how silent flags → ⊥
+  pub fetch : (by_uid : Bool) (set : SeqSet) (items : List FetchItem) (changed_since : Option ℕ) (vanished : Bool) → command ≡ Fetch by_uid set items changed_since vanished → ⊥
 
 module _ (shared : Shared) (number now : ℕ) (state : State) (tag : List ℕ) where
   pub unserved_else : (command : Command) → IsOther command → commanded shared number state tag command now ≡ unserved shared tag
@@ -52,7 +54,7 @@ module _ (shared : Shared) (number now : ℕ) (state : State) (tag : List ℕ) w
   unserved_else Expunge other = refl
   unserved_else (Enable a) other = refl
   unserved_else (Store a b x y z u) other = absurd (other.store a b x y z u refl)
-  unserved_else (Fetch a b x y z) other = refl
+  unserved_else (Fetch a b x y z) other = absurd (other.fetch a b x y z refl)
   unserved_else (Search a b x) other = refl
   unserved_else (Sort a b x y) other = refl
   unserved_else (Thread a b x) other = refl

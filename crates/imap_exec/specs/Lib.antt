@@ -5,3 +5,4 @@ pub mod Users
 pub mod Selecting
 pub mod Numbers
 pub mod Storing
+pub mod Fetching

@@ -10,6 +10,7 @@ use crate::append::append;
 use crate::authenticate::authenticate;
 use crate::create::create;
 use crate::delete::delete;
+use crate::fetch::fetch;
 use crate::lines::complete;
 use crate::list::list;
 use crate::login::login;
@@ -127,6 +128,25 @@ fn execute_tagged<D: Disk>(
             text,
         } => append(
             alloc, store, sessions, number, answer, tag, name, flags, stamp, text, now,
+        ),
+        Command::Fetch {
+            by_uid,
+            set,
+            items,
+            changed_since,
+            vanished,
+        } => fetch(
+            alloc,
+            store,
+            sessions,
+            number,
+            answer,
+            tag,
+            *by_uid,
+            set,
+            items,
+            *changed_since,
+            *vanished,
         ),
         Command::Store {
             by_uid,

@@ -12,6 +12,8 @@ mod credentials;
 mod delete;
 mod distinct;
 mod executing;
+mod fetch;
+mod fetch_lines;
 mod greeting;
 mod lines;
 mod list;

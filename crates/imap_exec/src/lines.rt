@@ -89,7 +89,7 @@ pub(crate) fn refuse_bad(
 }
 
 // How the answer of a call is told, where it isn't the store's fault.
-fn refusal_of(fault: MailFault) -> Result<Refusal, StoreFault>
+pub(crate) fn refusal_of(fault: MailFault) -> Result<Refusal, StoreFault>
     ensures { result ≡ refusal_in fault }
 {
     match fault {

@@ -87,7 +87,7 @@ fn is_fit_date(date: &Option<Stamp>) -> bool
     }
 }
 
-fn has_print(date: Stamp) -> bool
+pub(crate) fn has_print(date: Stamp) -> bool
     ensures { result ≡ has_print_of date }
 {
     let day = civil_day(date);

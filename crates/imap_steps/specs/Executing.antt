@@ -1,13 +1,15 @@
 -- What a command does (RFC 3501 §6).
-use Rattle.std.specs.Prelude.{ℕ, not, Bool, true, false, List, [], ◌++◌, Option, Some, None, Result, Ok, Err, codes, if◌then◌else◌}
+use Rattle.std.specs.Prelude.{ℕ, not, ◌&&◌, Bool, true, false, List, [], ◌++◌, Option, Some, None, Result, Ok, Err, codes, if◌then◌else◌}
 use Rattle.std.specs.List.{list_any}
 use Rattle.imap_grammar.specs.declared.flags.Flag.{Flag}
 use Rattle.imap_grammar.specs.declared.flags.FlagChange.{FlagChange}
 use Rattle.imap_grammar.specs.declared.commands.Command.{Command}
-use Rattle.imap_grammar.specs.declared.commands.Command.TheVariants.{Capability, Noop, Logout, Check, Login, Authenticate, Create, List as ListNames, Append, Select, Delete, Subscribe, Unsubscribe, Status, Rename, Store}
+use Rattle.imap_grammar.specs.declared.commands.Command.TheVariants.{Capability, Noop, Logout, Check, Login, Authenticate, Create, List as ListNames, Append, Select, Delete, Subscribe, Unsubscribe, Status, Rename, Store, Fetch}
 use Rattle.imap_grammar.specs.declared.commands.Tagged.{Tagged}
 use Rattle.imap_grammar.specs.declared.commands.Bad.{Bad}
 use Rattle.imap_grammar.specs.declared.commands.Bad.TheVariants.{WithTag, NoTag}
+use Rattle.imap_grammar.specs.declared.items.FetchItem.{FetchItem}
+use Rattle.imap_grammar.specs.declared.items.FetchItem.TheVariants.{Modseq}
 use Rattle.imap_grammar.specs.declared.items.StatusItem.{StatusItem}
 use Rattle.imap_grammar.specs.declared.selecting.Resync.{Resync}
 use Rattle.imap_writer.specs.declared.refusals.Refusal.TheVariants.{LiteralTooLong, Syntax, State as WrongState}
@@ -25,6 +27,7 @@ use Rattle.imap_steps.specs.Managing.{delete, subscribe, unsubscribe}
 use Rattle.imap_steps.specs.Status.{status, is_highest}
 use Rattle.imap_steps.specs.Renaming.{rename}
 use Rattle.imap_steps.specs.Storing.{store}
+use Rattle.imap_steps.specs.Fetching.{fetch}
 
 -- ---- when a command may be given
 
@@ -88,6 +91,20 @@ abbrev pub store_plainly : Shared → List ℕ → State → Bool → List (Opti
 store_plainly shared tag state by_uid ranges None how silent flags = of_selection shared tag state (λ selection. store shared tag selection by_uid ranges how silent flags)
 store_plainly shared tag state by_uid ranges (Some modseq) how silent flags = unserved shared tag
 
+abbrev pub is_modseq : FetchItem → Bool
+is_modseq Modseq = true
+is_modseq item = false
+
+-- whether FETCH asks for nothing that CONDSTORE or QRESYNC brings (RFC 4551 §3.3, RFC 5162 §3.2)
+abbrev pub is_plain_fetch : List FetchItem → Option ℕ → Bool → Bool
+is_plain_fetch items None vanished = not vanished && not (list_any is_modseq items)
+is_plain_fetch items (Some modseq) vanished = false
+
+-- FETCH without these, which aren't served yet
+abbrev pub fetch_plainly : Shared → List ℕ → State → Bool → List (Option ℕ × Option ℕ) → List FetchItem → Option ℕ → Bool → Stepped
+fetch_plainly shared tag state by_uid ranges items since vanished =
+    if is_plain_fetch items since vanished then of_selection shared tag state (λ selection. fetch shared tag selection by_uid ranges items) else unserved shared tag
+
 -- What a command with its tag does in a session of a state.
 abbrev pub commanded : Shared → ℕ → State → List ℕ → Command → ℕ → Stepped
 commanded shared number state tag Capability now = capability shared tag
@@ -106,6 +123,7 @@ commanded shared number state tag (Select name examine condstore resync) now = s
 commanded shared number state tag (Append name flags date text) now = of_user shared tag state (λ user. append shared user tag name flags date text now)
 commanded shared number state tag Check now = while_selected shared tag state (completed shared tag (codes "CHECK"))
 commanded shared number state tag (Store by_uid set unchanged how silent flags) now = store_plainly shared tag state by_uid set.ranges unchanged how silent flags
+commanded shared number state tag (Fetch by_uid set items since vanished) now = fetch_plainly shared tag state by_uid set.ranges items since vanished
 commanded shared number state tag command now = unserved shared tag
 
 -- what a unit does that is a command, or none

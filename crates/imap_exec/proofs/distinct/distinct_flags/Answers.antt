@@ -1,9 +1,7 @@
-use Rattle.std.proofs.Common.{◌≡◌, ◌+◌, ◌-◌, ◌<◌, ℕ, List, drop, length, sym, ap, subst, ◌∙◌, arith}
-use Rattle.std.specs.Prelude.{not}
-use Rattle.std.specs.List.{filter}
+use Rattle.std.proofs.Common.{◌≡◌, ◌+◌, ◌-◌, ◌<◌, ℕ, List, drop, length, sym, ap, ◌∙◌, arith}
 use Rattle.std.proofs.Math.Seq.{drop-length}
 use Rattle.imap_grammar.specs.declared.flags.Flag.{Flag}
-use Rattle.mail_world.specs.Flags.{distinct, same_flag}
+use Rattle.mail_world.specs.Flags.{distinct}
 use Rattle.imap_exec.proofs.NamedOnce.{one_more}
 use Rattle.imap_exec.proofs.distinct.distinct_flags.Goals as goal
 

@@ -1,5 +1,5 @@
 use Rattle.std.proofs.Common.{codes}
-use Rattle.imap_grammar.specs.declared.commands.Command.TheVariants.{Capability, Noop, Logout, Check, Authenticate, Create, Delete, Subscribe, Unsubscribe, Status, Append, Select, Rename, Store, List as ListNames}
+use Rattle.imap_grammar.specs.declared.commands.Command.TheVariants.{Capability, Noop, Logout, Check, Authenticate, Create, Delete, Subscribe, Unsubscribe, Status, Append, Select, Rename, Store, Fetch, List as ListNames}
 use Rattle.session_view.specs.Parts.{state_of}
 use Rattle.imap_steps.specs.Stepping.{completed}
 use Rattle.imap_steps.specs.Executing.{capability, commanded, logout, unserved, while_selected}
@@ -85,6 +85,11 @@ returns-in-Store g c =
     as_command g.D.Disk.told c.store_flags.result c.args.store.now c.store_flags.new.store c.args.sessions.now c.args.sessions.now c.args.answer.now.items c.store_flags.new.answer.items c.args.number c.args.now c.args.tag.now c.args.command.now
     (Store c.in-Store.by_uid c.in-Store.set c.in-Store.unchanged_since c.in-Store.how c.in-Store.silent c.in-Store.flags) c.in-Store.is c.store_flags.ensures
 
+pub returns-in-Fetch : goal.returns-in-Fetch
+returns-in-Fetch g c =
+    as_command g.D.Disk.told c.fetch.result c.args.store.now c.fetch.new.store c.args.sessions.now c.args.sessions.now c.args.answer.now.items c.fetch.new.answer.items c.args.number c.args.now c.args.tag.now c.args.command.now
+    (Fetch c.in-Fetch.by_uid c.in-Fetch.set c.in-Fetch.items c.in-Fetch.changed_since c.in-Fetch.vanished) c.in-Fetch.is c.fetch.ensures
+
 pub returns-in_default : goal.returns-in_default
 returns-in_default g c =
     let number = c.args.number in
@@ -108,5 +113,6 @@ returns-in_default g c =
       select = c.in_default.not-Select;
       append = c.in_default.not-Append;
       store = c.in_default.not-Store;
+      fetch = c.in_default.not-Fetch;
     }))
     (said_always g.D.Disk.told c.unserved.result c.args.store.now c.args.sessions.now c.args.answer.now.items c.unserved.new.answer.items (λ shared. unserved shared c.args.tag.now) c.requires.ready c.unserved.ensures)

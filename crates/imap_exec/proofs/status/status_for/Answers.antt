@@ -1,11 +1,10 @@
-use Rattle.std.proofs.Common.{◌≡◌, ◌++◌, ℕ, List, [], map, Option, None, codes, sym, ap, subst, ◌∙◌}
+use Rattle.std.proofs.Common.{◌++◌, ℕ, [], map, Option, codes, sym, ap, subst, ◌∙◌}
 use Rattle.std.specs.List.{list_any}
-use Rattle.row_store.specs.Holding.{in_row}
 use Rattle.imap_writer.specs.declared.refusals.Refusal.TheVariants.{Absent}
 use Rattle.imap_writer.specs.Statuses.{status_line}
 use Rattle.imap_writer.specs.Tagged.{ok_line}
 use Rattle.mail_world.specs.Names.{mailbox_name}
-use Rattle.mail_world.specs.Worlds.{Mailbox, World, mailbox_named, no_world}
+use Rattle.mail_world.specs.Worlds.{Mailbox, mailbox_named, no_world}
 use Rattle.mailbox_core.specs.Statuses.{IsStatus}
 use Rattle.imap_steps.specs.Stepping.{Shared, answered, refused_with}
 use Rattle.imap_steps.specs.Status.{status, status_of}

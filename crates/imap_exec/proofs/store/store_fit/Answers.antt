@@ -2,7 +2,7 @@ use Rattle.std.proofs.Common.{sym, ◌∙◌}
 use Rattle.imap_writer.specs.declared.refusals.Refusal.TheVariants.{ReadOnly, Syntax}
 use Rattle.session_view.specs.Resolving.{resolved}
 use Rattle.mail_world.specs.Worlds.{World}
-use Rattle.imap_steps.specs.Stepping.{Shared, refused_with}
+use Rattle.imap_steps.specs.Stepping.{refused_with}
 use Rattle.imap_steps.specs.Storing.{store, stored}
 use Rattle.imap_exec.proofs.Choosing.{store_examined, store_selected, store_unfit}
 use Rattle.imap_exec.proofs.Saying.{executed_as, said_always}

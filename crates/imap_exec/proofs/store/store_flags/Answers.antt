@@ -1,4 +1,4 @@
-use Rattle.std.proofs.Common.{◌≡◌, ℕ, List, None, Some, Option, sym, ap, subst, ◌∙◌}
+use Rattle.std.proofs.Common.{ℕ, List, None, Option, sym, ap, ◌∙◌}
 use Rattle.imap_grammar.specs.declared.flags.Flag.{Flag}
 use Rattle.session_view.specs.Parts.{state_of}
 use Rattle.mail_world.specs.Worlds.{World}

@@ -1,4 +1,4 @@
-use Rattle.std.proofs.Common.{◌≡◌, ℕ, List, codes, sym, subst, ◌∙◌}
+use Rattle.std.proofs.Common.{codes, sym, subst, ◌∙◌}
 use Rattle.std.proofs.lemmas.Bool.{false≢true}
 use Rattle.row_store.specs.Holding.{in_row}
 use Rattle.row_tables.specs.TableRows.{TableRows}

@@ -1,4 +1,4 @@
-use Rattle.std.proofs.Common.{sym, ◌∙◌}
+use Rattle.std.proofs.Common.{sym}
 use Rattle.imap_writer.specs.declared.refusals.Refusal.TheVariants.{State as WrongState}
 use Rattle.session_view.specs.Parts.{state_of}
 use Rattle.mail_world.specs.Worlds.{World}

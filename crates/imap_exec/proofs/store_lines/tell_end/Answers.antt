@@ -1,6 +1,6 @@
-use Rattle.std.proofs.Common.{◌≡◌, Bool, false, codes, sym, ap, ◌∙◌}
+use Rattle.std.proofs.Common.{Bool, false, codes, ap, ◌∙◌}
 use Rattle.imap_writer.specs.declared.refusals.Refusal.TheVariants.{ExpungeIssued}
-use Rattle.imap_steps.specs.Stepping.{Stepped, answered, completed, refused_with}
+use Rattle.imap_steps.specs.Stepping.{answered, completed, refused_with}
 use Rattle.imap_steps.specs.Storing.{store_line}
 use Rattle.imap_exec.proofs.Saying.{said_as}
 use Rattle.imap_exec.proofs.StoreLines.{line_by_uid}

@@ -1,4 +1,4 @@
-use Rattle.std.proofs.Common.{◌≡◌, ◌++◌, ℕ, Bool, List, [], cond, sym, ap, subst, ◌∙◌}
+use Rattle.std.proofs.Common.{◌++◌, ℕ, Bool, List, [], cond, ap, subst}
 use Rattle.mail_world.specs.Worlds.{no_world}
 use Rattle.imap_steps.specs.Stepping.{answered}
 use Rattle.imap_steps.specs.Storing.{store_line, told}
